@@ -1,0 +1,4 @@
+pub mod Reading
+pub mod ExpressionText
+pub mod StatementText
+pub mod ProgramText
