@@ -1,3 +1,5 @@
+pub mod TokenTable
+pub mod Lexemes
 pub mod Reading
 pub mod ExpressionText
 pub mod StatementText

@@ -7,7 +7,6 @@ mod known;
 mod listed;
 mod memory;
 mod numbers;
-mod replies;
 
 pub use arithmetic::{add, div, mul, neg, rem, sub};
 pub use body::{Arg, Args, BodyEnd, BodyResult, BodyStart, CallMade, Calls, MemberId, Yield};
@@ -15,4 +14,3 @@ pub use known::{Known, Trap, TrapKind};
 pub use listed::Listed;
 pub use memory::NoMemory;
 pub use numbers::{Bytes, Numbers, Words};
-pub use replies::Replies;
