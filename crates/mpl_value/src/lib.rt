@@ -7,6 +7,9 @@ mod known;
 mod listed;
 mod memory;
 mod numbers;
+mod replies;
+#[cfg(test)]
+mod tests;
 
 pub use arithmetic::{add, div, mul, neg, rem, sub};
 pub use body::{Arg, Args, BodyEnd, BodyResult, BodyStart, CallMade, Calls, MemberId, Yield};
@@ -14,3 +17,4 @@ pub use known::{Known, Trap, TrapKind};
 pub use listed::Listed;
 pub use memory::NoMemory;
 pub use numbers::{Bytes, Numbers, Words};
+pub use replies::Replies;
