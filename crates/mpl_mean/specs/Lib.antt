@@ -4,3 +4,7 @@ pub mod Reading
 pub mod ExpressionText
 pub mod StatementText
 pub mod ProgramText
+pub mod Weight
+pub mod Built
+pub mod Store
+pub mod Meaning

@@ -1,11 +1,12 @@
 -- The tokens of calls and statements.
-use Rattle.std.specs.Prelude.{Bool, true, false, not, ◌&&◌, List, [], ◌∷◌, map, Option, Some, None, if◌then◌else◌}
+use Rattle.std.specs.Prelude.{ℕ, Bool, true, false, not, ◌&&◌, List, [], ◌∷◌, map, Option, Some, None, if◌then◌else◌}
 use Rattle.std.specs.Option.{option_map}
 use Rattle.mpl_ast.specs.declared.expression.Expression.{Expression}
 use Rattle.mpl_ast.specs.declared.flow.Assignment.{Assignment}
 use Rattle.mpl_ast.specs.declared.flow.Call.{Call, fold-Call}
 use Rattle.mpl_ast.specs.declared.flow.Flow.{Flow, fold-Flow}
 use Rattle.mpl_ast.specs.declared.flow.Call.TheOpen.{Call-F, Flow-F}
+use Rattle.mpl_ast.specs.declared.place.At.{At}
 use Rattle.mpl_ast.specs.declared.statement.Block.{Block, Block-F}
 use Rattle.mpl_ast.specs.declared.statement.Statement.{Statement, fold-Statement}
 use Rattle.mpl_ast.specs.declared.statement.Statement.TheOpen.{Statement-F}
@@ -94,8 +95,12 @@ texts = map (λ s. s.text)
 abbrev pub before_else : StatementText → Reads
 before_else s = if s.takes_else then refused else s.text
 
+-- a block, of the tokens of its statements
+abbrev pub block_of : At → ℕ → List Reads → Reads
+block_of at line statements = node at (mark m.OpenBrace >> each statements >> mark_on line m.CloseBrace)
+
 abbrev pub block_step : Block-F StatementText Reads → Reads
-block_step b = node b.at (mark m.OpenBrace >> each (texts b.statements) >> mark_on b.mark_line m.CloseBrace)
+block_step b = block_of b.at b.mark_line (texts b.statements)
 
 abbrev pub statement_step : Statement-F StatementText Reads → StatementText
 statement_step (Statement-F.OfBlock at block) = closed (node at block)
@@ -131,4 +136,4 @@ abbrev pub statement_text : Statement → Reads
 statement_text s = (statement_of s).text
 
 abbrev pub block_text : Block → Reads
-block_text b = node b.at (mark m.OpenBrace >> each (map statement_text b.statements) >> mark_on b.mark_line m.CloseBrace)
+block_text b = block_of b.at b.mark_line (map statement_text b.statements)
