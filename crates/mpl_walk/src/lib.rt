@@ -1,6 +1,6 @@
 //! Runs a body in place, the plain way.
 #![tactic(auto)]
 
-mod walk;
+mod body;
 
-pub use walk::walk;
+pub use body::walk;
