@@ -1,0 +1,5 @@
+pub mod Answer
+pub mod Output
+pub mod Program
+pub mod StatusNumber
+pub mod Words

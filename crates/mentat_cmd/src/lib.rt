@@ -1,4 +1,12 @@
-//! The commands of the program.
+//! The commands of the program, over any shelf of files, input and outputs.
 #![tactic(auto)]
 
+mod command;
+mod output;
 mod parser;
+mod run;
+mod status;
+mod words;
+
+pub use command::quiet_command;
+pub use status::{Ending, Status};

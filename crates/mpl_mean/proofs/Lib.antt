@@ -1,1 +1,2 @@
+mod TokenCount
 mod WorkedTokens

@@ -8,3 +8,4 @@ pub mod Weight
 pub mod Built
 pub mod Store
 pub mod Meaning
+pub mod DirectRun

@@ -1,0 +1,78 @@
+-- What a command answers, and why.
+use Rattle.std.specs.Prelude.{◌≡◌, ℕ, ◌<◌, List, Option, Some, None, length, IfSome, IsSome}
+use Rattle.mentat_io.specs.Causes.{Rose}
+use Rattle.mentat_io.specs.Shelf.{Files, IsStartOf, file_named}
+use Rattle.mpl_mean.specs.DirectRun.{IsOver}
+use Rattle.mpl_value.specs.declared.body.BodyEnd.{BodyEnd}
+use Rattle.mpl_value.specs.declared.body.BodyEnd.TheVariants as end
+use Rattle.mpl_value.specs.declared.body.Yield.{Yield}
+use Rattle.mentat_cmd.specs.declared.status.Ending.{Ending}
+use Rattle.mentat_cmd.specs.declared.status.Status.{Status}
+use Rattle.mentat_cmd.specs.declared.status.Status.TheVariants as status
+use Rattle.mentat_cmd.specs.Output.{Appends, AppendsFront}
+use Rattle.mentat_cmd.specs.Program.{Runs, SpellsNothing}
+
+-- the greatest length of a source
+abbrev pub source_limit : ℕ
+source_limit = 1048576
+
+-- The bytes that were read are those of the file. Of a longer file than a source may be they are the first ones, one
+-- more than the limit.
+abbrev pub IsRead : Option Files → List ℕ → List ℕ → Type 0
+IsRead files name source = IfSome files (λ fs. IsStartOf 1048577 fs name source)
+
+-- what is written of a run's lines
+abbrev pub Output : Type 1
+Output = List ℕ → Type 0
+
+-- the run of the source ended so, in so many turns, and its lines were written so
+pub record Finishes (source : List ℕ) (turns : ℕ) (ending : Yield → Type 0) (output : Output) : Type 0 where
+  pub done : Yield
+  pub runs : Runs source done
+  pub takes : turns ≡ done.turns
+  pub ends : ending done
+  pub written : output done.lines
+
+-- How a command ends that has read these bytes: each status with its cause. `whole` and `front` say that all lines or
+-- a front of them were written, and `fault` that a write failed.
+abbrev pub Answers : List ℕ → (whole front : Output) → (fault : Type 0) → Status → ℕ → Type 0
+Answers source whole front fault status.Done turns = Finishes source turns (λ y. y.end ≡ end.Done) whole
+Answers source whole front fault (status.Trap trap) turns = Finishes source turns (λ y. y.end ≡ end.Trap trap) whole
+Answers source whole front fault status.WriteFault turns = Finishes source turns (λ y. IsOver y.end) front × fault
+Answers source whole front fault status.TooLong turns = (source_limit < length source) × (turns ≡ 0)
+Answers source whole front fault (status.Unbuilt at) turns = SpellsNothing source × (at ≡ 0) × (turns ≡ 0)
+Answers source whole front fault status.NoMemory turns = turns ≡ 0
+Answers source whole front fault status.Usage turns = ⊥
+Answers source whole front fault status.ReadFault turns = ⊥
+
+-- How a command ends that names a file: without memory, without the file, or by the bytes that were read.
+abbrev pub Answered : Option Files → List ℕ → (List ℕ → Type 0) → Status → ℕ → Type 0
+Answered files name cause status.ReadFault turns = turns ≡ 0
+Answered files name cause status.NoMemory turns = turns ≡ 0
+Answered files name cause _ turns = (source : List ℕ) × IsRead files name source × cause source
+
+-- the files are told, and the file is among them
+abbrev pub IsThere : Option Files → Option (List ℕ) → Type 0
+IsThere (Some fs) (Some name) = IsSome (file_named fs name)
+IsThere None name = ⊥
+IsThere (Some fs) None = ⊥
+
+-- a status with which nothing was written
+abbrev pub LeavesOutput : Status → Type 0
+LeavesOutput status.Done = ⊥
+LeavesOutput (status.Trap trap) = ⊥
+LeavesOutput status.WriteFault = ⊥
+LeavesOutput _ = Unit {0}
+
+-- a run that ended so has the status
+abbrev pub IsStatusOf : BodyEnd → Status → Type 0
+IsStatusOf e status.Done = e ≡ end.Done
+IsStatusOf e (status.Trap trap) = e ≡ end.Trap trap
+IsStatusOf e _ = ⊥
+
+-- how a run that is over ends, as a status
+abbrev pub Ends : Yield → (whole front : Output) → (fault : Type 0) → Status → Type 0
+Ends y whole front fault status.Done = (y.end ≡ end.Done) × whole y.lines
+Ends y whole front fault (status.Trap trap) = (y.end ≡ end.Trap trap) × whole y.lines
+Ends y whole front fault status.WriteFault = front y.lines × fault
+Ends y whole front fault _ = ⊥

@@ -1,0 +1,59 @@
+ghost use Rattle.std.specs.Prelude.{◌≡◌, ◌≤◌, [], length};
+ghost use Rattle.mentat_cmd.specs.Program.{Ran};
+ghost use Rattle.mpl_mean.specs.DirectRun.{main_start};
+
+use crate::parser::{ParseFault, parse};
+use mpl_lexer::{LexFault, lex};
+use mpl_mean::tokens_are_few;
+use mpl_value::{BodyStart, NoMemory, Replies, Words, Yield};
+use mpl_walk::walk;
+use std::alloc::Global;
+
+/// The turns that a run may take.
+pub const BUDGET: u64 = 1_000_000;
+
+/// Why a source didn't run.
+#[derive(Clone, Copy, Debug, PartialEq, Eq)]
+pub enum Refusal {
+    /// No program that is built so far has this source.
+    Unbuilt,
+    NoMemory,
+}
+
+/// What the program of a source does.
+pub fn run(alloc: Global, source: &[u8]) -> Result<Yield, Refusal>
+    requires { length source.now ≤ 1048576 }
+    ensures { Ran source.now result }
+{
+    let tokens = match lex(alloc, source) {
+        Ok(tokens) => tokens,
+        Err(LexFault::NoMemory) => return Err(Refusal::NoMemory),
+        Err(_) => return Err(Refusal::Unbuilt),
+    };
+    tokens_are_few();
+    let program = match parse(alloc, &tokens) {
+        Ok(program) => program,
+        Err(ParseFault::NoMemory) => return Err(Refusal::NoMemory),
+        Err(ParseFault::Unfit) => return Err(Refusal::Unbuilt),
+    };
+    let start = start_of_main(alloc);
+    let replies = Replies::new(alloc);
+    match walk(alloc, &program, &start, &replies, BUDGET) {
+        Ok(done) => Ok(done),
+        Err(NoMemory) => Err(Refusal::NoMemory),
+    }
+}
+
+// The start of `main` without input.
+fn start_of_main(alloc: Global) -> BodyStart
+    ensures { result ≡ main_start [] }
+{
+    BodyStart {
+        member: None,
+        args: Words::new(alloc),
+        state: Words::new(alloc),
+        object: 0,
+        number: 0,
+        input: Words::new(alloc),
+    }
+}

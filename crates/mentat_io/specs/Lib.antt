@@ -1,0 +1,7 @@
+pub mod Causes
+pub mod MemShelf
+pub mod MemSink
+pub mod MemSource
+pub mod Plan
+pub mod Shelf
+pub mod Source
