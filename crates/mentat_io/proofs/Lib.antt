@@ -1,2 +1,4 @@
 pub mod Files
 pub mod Plans
+pub mod Reading
+pub mod Writing

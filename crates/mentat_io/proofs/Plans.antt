@@ -1,7 +1,5 @@
 -- What a list of calls that are to fail says of the calls that come.
-use Rattle.std.proofs.Common.{◌≡◌, ◌+◌, ◌<◌, ◌≤◌, ◌≤ℤ◌, ◌&&◌, ◌||◌, ℕ, suc, ℤ, pos, negsuc, Bool, true, false, List, [], ◌∷◌, refl, ap, sym, arith, rules, nat_eq, nat_le, All}
-use Rattle.std.specs.List.{list_any, list_all}
-use Rattle.std.proofs.lemmas.Grind.{common_steps}
+use Rattle.std.proofs.Common.{◌≡◌, ◌+◌, ◌≤◌, ◌≤ℤ◌, ℕ, ℤ, pos, negsuc, true, false, List, [], ◌∷◌, refl, arith, All}
 use Rattle.std.proofs.lemmas.Int.{ints}
 use Rattle.std.proofs.lemmas.List.Elements.{All-head}
 use Rattle.mentat_io.specs.Plan.{is_number, is_listed, is_past, none_to_come}

@@ -4,4 +4,5 @@ pub mod MemSink
 pub mod MemSource
 pub mod Plan
 pub mod Shelf
+pub mod Sink
 pub mod Source

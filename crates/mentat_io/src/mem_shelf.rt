@@ -27,9 +27,9 @@ impl Model for MemShelf {
 }
 
 impl MemShelf {
-    #[tactic(auto, using(crate::proofs::Plans::none_at_first))]
     /// A shelf without files, which takes no memory. `failing` has the numbers of the calls of
     /// `read_file` that are to fail, from 1 and rising.
+    #[tactic(auto, using(crate::proofs::Plans::none_at_first))]
     pub fn new(alloc: Global, failing: Words) -> MemShelf
         ensures state { result ≡ record { files = []; plan = record { failing = failing; calls = 0; faults = 0 } } }
         ensures sure { All (λ z. pos 1 ≤ℤ z) failing → IsTrue (is_sure result) ↔ (failing ≡ []) }
@@ -40,8 +40,8 @@ impl MemShelf {
         }
     }
 
-    #[tactic(auto, using(crate::proofs::Files::put_at, crate::proofs::Files::put_behind, crate::proofs::Files::named_after_put))]
     /// Adds a file, or replaces the one of that name.
+    #[tactic(auto, using(crate::proofs::Files::put_at, crate::proofs::Files::put_behind, crate::proofs::Files::named_after_put))]
     pub fn add_file(&mut self, name: Text, bytes: Bytes) -> Result<(), NoMemory>
         ensures ok { OnOk result (self.new ≡ record self.old { files = with_file self.old.files name bytes }) }
         ensures named { OnOk result ((n : List ℕ) → file_named self.new.files n ≡ (if bytes_eq name n then Some bytes else file_named self.old.files n)) }

@@ -1,4 +1,4 @@
-ghost use Rattle.std.specs.Prelude.{◌≡◌, ◌≤◌, ◌<◌, ◌++◌, ℕ, [], min, length, take, Some, IfOk, IsErr, OnErr, IsTrue};
+ghost use Rattle.std.specs.Prelude.{◌≡◌, ◌≤◌, ◌<◌, ◌++◌, [], min, length, take, Some, IfOk, IsErr, OnErr, IsTrue};
 ghost use Rattle.mentat_io.specs.Causes.{Rose};
 ghost use Rattle.mentat_io.specs.Plan.{fails_next};
 ghost use Rattle.mentat_io.specs.MemSink.{after_write};

@@ -1,4 +1,4 @@
-ghost use Rattle.std.specs.Prelude.{◌≡◌, ◌≤◌, ◌<◌, ℕ, [], min, length, drop, Some, IfOk, OnErr, is_err};
+ghost use Rattle.std.specs.Prelude.{◌≡◌, ◌≤◌, ◌<◌, [], min, length, drop, Some, IfOk, OnErr, is_err};
 ghost use Rattle.mentat_io.specs.Causes.{Rose};
 ghost use Rattle.mentat_io.specs.Plan.{fails_next};
 ghost use Rattle.mentat_io.specs.Source.{GivesStart};

@@ -1,5 +1,5 @@
 ghost use Rattle.std.specs.Prelude.{◌≡◌, ◌≤◌, ◌+◌};
-ghost use Rattle.mentat_io.specs.Plan.{is_number, fails_next, one_more, is_listed};
+ghost use Rattle.mentat_io.specs.Plan.{is_number, fails_next, one_more};
 
 use mpl_value::Words;
 use std::marker::Model;

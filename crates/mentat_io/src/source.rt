@@ -1,4 +1,4 @@
-ghost use Rattle.std.specs.Prelude.{◌≡◌, ◌≤◌, ◌<◌, ℕ, List, [], Option, length, take, drop, option_map, IfOk, IfSome, OnErr};
+ghost use Rattle.std.specs.Prelude.{◌≡◌, ◌≤◌, ◌<◌, ℕ, List, Option, length, drop, option_map, IfOk, IfSome, OnErr};
 ghost use Rattle.mentat_io.specs.Causes.{Rose};
 ghost use Rattle.mentat_io.specs.Source.{GivesStart, IsAtEnd};
 

@@ -5,8 +5,8 @@ use crate::source::Source;
 use std::io::Read;
 use std::marker::Model;
 
-/// A source over a reader of the system, which counts its errors and tells nothing of the bytes. It is
-/// seen as how many there were.
+/// A source over a reader of the system. It tells nothing of the bytes, and is seen as the number
+/// of its errors.
 #[derive(Debug, Drop)]
 pub struct StdSource<R> {
     reader: R,

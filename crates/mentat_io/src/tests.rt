@@ -1,3 +1,8 @@
+ghost use Rattle.std.specs.Prelude.{◌≡◌, false, IfOk, IfSome, IsTrue};
+ghost use Rattle.mentat_io.specs.Causes.{Rose};
+ghost use Rattle.mentat_io.specs.Sink.{WasWritten};
+ghost use Rattle.mentat_io.specs.Source.{WasRead};
+
 use crate::{
     Failed, FileShelf, MemShelf, MemSink, MemSource, Shelf, ShelfFault, Sink, Source, StdSink,
     StdSource, Text,
@@ -8,10 +13,14 @@ use std::io::{self, Cursor, Read, Write};
 use std::{env, fs};
 
 /// Reads to the end, or to the first fault, in pieces of 4 bytes.
-fn read_all<S: Source>(alloc: Global, source: &mut S) -> Result<(Bytes, bool), NoMemory> {
+#[tactic(auto, using(crate::proofs::Reading::none_read, crate::proofs::Reading::one_more_read, crate::proofs::Reading::all_read))]
+fn read_all<S: Source>(alloc: Global, source: &mut S) -> Result<(Bytes, bool), NoMemory>
+    ensures read { IfOk result (λ r. WasRead (S.left source.old) (S.left source.new) r.0) }
+    ensures whole { IfOk result (λ r. IsTrue r.1 → IfSome (S.left source.old) (λ xs. xs ≡ r.0)) }
+{
     let mut bytes = Bytes::new(alloc);
     let mut piece = [0u8; 4];
-    for _ in 0..1000 {
+    while bytes.len() < 1000 {
         match source.read(&mut piece) {
             Ok(0) => return Ok((bytes, true)),
             Ok(count) => bytes.extend(&piece[..count])?,
@@ -22,18 +31,19 @@ fn read_all<S: Source>(alloc: Global, source: &mut S) -> Result<(Bytes, bool), N
 }
 
 /// Writes all of the bytes, and tells whether there was no fault.
-fn write_all<S: Sink>(sink: &mut S, bytes: &[u8]) -> bool {
-    let mut rest = bytes;
-    for _ in 0..1000 {
-        if rest.is_empty() {
-            return true;
-        }
-        match sink.write(rest) {
-            Ok(count) => rest = &rest[count..],
+#[tactic(auto, using(crate::proofs::Writing::none_written))]
+fn write_all<K: Sink>(sink: &mut K, bytes: &[u8]) -> bool
+    ensures whole { IsTrue result → WasWritten (K.written sink.old) (K.written sink.new) bytes.now }
+    ensures cause { result ≡ false → Rose (K.faults sink.old) (K.faults sink.new) }
+{
+    let mut at = 0;
+    while at < bytes.len() {
+        match sink.write(&bytes[at..]) {
+            Ok(count) => at += count,
             Err(Failed) => return false,
         }
     }
-    false
+    true
 }
 
 /// What a shelf gives for a name: its bytes are to be those, or it is to fail.
@@ -52,7 +62,7 @@ fn gives<S: Shelf>(
     }
 }
 
-/// A reader and a writer that fails at its second call.
+/// A reader that fails at its second call.
 #[derive(Drop)]
 struct Breaking {
     calls: u8,
