@@ -1,2 +1,3 @@
 mod TokenCount
+mod WorkedRun
 mod WorkedTokens

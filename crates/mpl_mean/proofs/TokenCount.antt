@@ -32,5 +32,8 @@ few_from zero at line [] tokens e = none_left tokens 0 e
 few_from (suc covered) at line [] tokens e = none_left tokens 0 e
 few_from (suc covered) at line (b ∷ bytes) tokens e = omega (arith, few_from covered (at + 1) (line_after b line) bytes tokens e)
 few_from zero at line (b ∷ bytes) tokens e =
-    omega (arith, few_after at line (lexeme b bytes) (λ n. tokens_from n (at + 1) (line_after b line) bytes) (length bytes) tokens
-      (λ n ts f. few_from n (at + 1) (line_after b line) bytes ts f) e)
+    omega (
+      arith,
+      few_after at line (lexeme b bytes) (λ n. tokens_from n (at + 1) (line_after b line) bytes) (length bytes) tokens
+          (λ n ts f. few_from n (at + 1) (line_after b line) bytes ts f) e,
+    )
