@@ -2,5 +2,8 @@
 #![tactic(auto)]
 
 mod body;
+mod evaluate;
+mod print;
+mod stop;
 
 pub use body::walk;
