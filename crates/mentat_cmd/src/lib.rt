@@ -6,6 +6,8 @@ mod output;
 mod parser;
 mod run;
 mod status;
+#[cfg(test)]
+mod tests;
 mod words;
 
 pub use command::quiet_command;
