@@ -2,3 +2,4 @@ pub mod Comments
 pub mod Numbers
 pub mod Words
 pub mod Steps
+pub mod Places

@@ -46,7 +46,7 @@ tokens_from_covered (suc n) at line (b ∷ bytes) =
     tokens_from_covered n (at + 1) (line_after b line) bytes ∙ same_place _ (at + suc n) _ _ (drop n bytes) (omega arith) (line_more b line (take n bytes))
 
 -- what a lexeme at a place leads to
-abbrev after : (at line : ℕ) → Lexeme → (ℕ → Read) → Read
+abbrev pub after : (at line : ℕ) → Lexeme → (ℕ → Read) → Read
 after at line (Gap n) go = go (n - 1)
 after at line (Word n kind) go = with_token (record { kind = kind; span = record { from = at; to = at + n }; line = line }) (go (n - 1))
 after at line (Fault fault) go = Err (fault, at)
@@ -81,7 +81,7 @@ pub record LoopKeeps (source : List ℕ) (at line : ℕ) (tokens : List Token) :
   pub lines : line ≤ at + 1
   pub whole : with_tokens tokens (tokens_from 0 at line (drop at source)) ≡ tokens_of source
 
-abbrev token_at : (at line n : ℕ) → TokenKind → Token
+abbrev pub token_at : (at line n : ℕ) → TokenKind → Token
 token_at at line n kind = record { kind = kind; span = record { from = at; to = at + n }; line = line }
 
 feeds_within : (n : ℕ) (bytes : List ℕ) → count_by is_line_feed (take n bytes) ≤ n

@@ -37,7 +37,7 @@ take_while_within p b bytes e =
     let rest = length-take (prefix_len p bytes) bytes in
     (omega (arith, same), omega (arith, same, rest))
 
-find_passes : {X : Type 0} (p q : X → Bool) (xs : List X) → list_all q xs ≡ true → IfSome (find p xs) (λ x. (p x ≡ true) × (q x ≡ true))
+pub find_passes : {X : Type 0} (p q : X → Bool) (xs : List X) → list_all q xs ≡ true → IfSome (find p xs) (λ x. (p x ≡ true) × (q x ≡ true))
 find_passes p q [] all = tt
 find_passes {X} p q (x ∷ xs) all =
     let both = and_both (q x) (list_all q xs) all in

@@ -2,9 +2,13 @@
 #![tactic(auto)]
 
 mod classes;
+mod laws;
 mod lexeme;
 mod lexer;
 mod scan;
 mod spelling;
+#[cfg(test)]
+mod tests;
 
+pub use laws::tokens_stand_in_their_source;
 pub use lexer::{LexFault, lex};

@@ -1,5 +1,5 @@
 -- What is built has parts that are built.
-use Rattle.std.proofs.Common.{◌≡◌, ◌&&◌, ℕ, Bool, true, refl, rules, sym, ◌∙◌}
+use Rattle.std.proofs.Common.{◌≡◌, ◌&&◌, ℕ, true, refl, rules, sym, ◌∙◌}
 use Rattle.std.proofs.lemmas.Bool.{and_parts}
 use Rattle.mpl_ast.specs.declared.expression.Sum.{Sum}
 use Rattle.mpl_ast.specs.declared.expression.SumOperator.{SumOperator}
@@ -24,7 +24,7 @@ pub term_parts : (at : At) (line : ℕ) (left : Term) (operator : TermOperator) 
     → (is_built_term left ≡ true) × (is_product operator ≡ true) × (is_built_unary right ≡ true)
 term_parts at line left operator right built =
     let layer : is_built_term (term.Multiply at line left operator right) ≡ (is_built_term left && is_product operator && is_built_unary right) =
-        search (rules, term.the_lemmas) in
+    search (rules, term.the_lemmas) in
     let outer = and_parts (is_built_term left && is_product operator) (is_built_unary right) (sym layer ∙ built) in
     let inner = and_parts (is_built_term left) (is_product operator) outer.0 in
     (inner.0, inner.1, outer.1)

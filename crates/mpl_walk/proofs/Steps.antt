@@ -1,8 +1,8 @@
 -- One step after another.
-use Rattle.std.proofs.Common.{◌≡◌, ℕ, ◌+◌, List, [], ◌∷◌, ◌++◌, map, drop, ℤ, Ok, append_assoc, refl, ap, sym, ◌∙◌}
+use Rattle.std.proofs.Common.{◌≡◌, ℕ, ◌+◌, List, [], ◌∷◌, ◌++◌, map, drop, ℤ, Ok, refl, ap, sym, ◌∙◌}
 use Rattle.mpl_ast.specs.declared.expression.Expression.{Expression}
 use Rattle.mpl_ast.specs.declared.statement.Statement.{Statement}
-use Rattle.mpl_mean.specs.Meaning.{Value, Evaluates, value_of, int_value, does}
+use Rattle.mpl_mean.specs.Meaning.{Value, value_of, int_value, does}
 use Rattle.mpl_mean.specs.Store.{Store, Outcome, Goes, Ends, all_of, and_then, give, in_turn}
 use Rattle.mpl_walk.specs.Evaluated.{evaluated}
 use Rattle.mpl_walk.specs.Runs.{Runs, with_lines}

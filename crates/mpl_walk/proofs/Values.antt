@@ -29,7 +29,7 @@ pub product_value : (at : At) (line : ℕ) (left : Term) (operator : TermOperato
     → term_value (Multiply at line left operator right) s ≡ evaluated (on_line line (product a b)) s
 product_value at line left operator right a b s times l r =
     let layer : term_value (Multiply at line left operator right) s ≡ arithmetic_of line (term_operation operator) (term_value left) (unary_value right) s =
-        search (rules, the_lemmas) in
+    search (rules, the_lemmas) in
     layer
     ∙ arithmetic_value line (term_operation operator) (term_value left) (unary_value right) a b s l r
     ∙ ap (λ o. evaluated (on_line line (term_operation o a b)) s) times

@@ -1,10 +1,10 @@
 -- What `main` yields where it has a turn.
-use Rattle.std.proofs.Common.{◌≡◌, ℕ, ◌<◌, Bool, true, nat_lt, cond, List, [], map, Ok, Err, refl, ap, ◌∙◌, lt-ltb}
+use Rattle.std.proofs.Common.{◌≡◌, ℕ, ◌<◌, cond, List, [], map, Ok, Err, ap, ◌∙◌, lt-ltb}
 use Rattle.std.specs.FinMap.{FinMap}
 use Rattle.std.specs.Ordering.{nat_cmp}
 use Rattle.mpl_ast.specs.declared.program.Program.{Program}
 use Rattle.mpl_mean.specs.Meaning.{does, ended_with, main_of, store_at_start, yield_of, yield_of_outcome}
-use Rattle.mpl_mean.specs.Store.{Store, Outcome, Goes, Ends, and_then, in_turn}
+use Rattle.mpl_mean.specs.Store.{Store, Goes, Ends, and_then, in_turn}
 use Rattle.mpl_value.specs.declared.body.BodyEnd.TheVariants as end
 use Rattle.mpl_value.specs.declared.body.BodyStart.{BodyStart}
 use Rattle.mpl_value.specs.declared.known.Known.{Known}

@@ -8,7 +8,8 @@ ghost use Rattle.mpl_walk.specs.Runs.{GivesAll};
 
 use crate::stop::Stop;
 use mpl_ast::expression::{
-    Conjunction, Equality, Expression, Primary, Relation, Sum, SumOperator, Term, TermOperator, Unary,
+    Conjunction, Equality, Expression, Primary, Relation, Sum, SumOperator, Term, TermOperator,
+    Unary,
 };
 use mpl_value::{Trap, TrapKind, Words, add, mul, sub};
 use std::alloc::Global;
@@ -19,61 +20,61 @@ pub fn values(alloc: Global, expressions: &[Expression]) -> Result<Words, Stop>
     ensures { GivesAll (all_of (map value_of expressions.now)) result }
 {
     let mut words = Words::new(alloc);
-    for e in expressions {
-        words.push(expression(e)?)?;
+    for expression in expressions {
+        words.push(expression_value(expression)?)?;
     }
     Ok(words)
 }
 
-fn expression(e: &Expression) -> Result<i64, Trap>
-    requires { is_built_expression e.now ≡ true }
-    ensures { (s : Store) → value_of e.now s ≡ evaluated result s }
+fn expression_value(node: &Expression) -> Result<i64, Trap>
+    requires { is_built_expression node.now ≡ true }
+    ensures { (s : Store) → value_of node.now s ≡ evaluated result s }
 {
-    match e {
-        Expression::OneConjunction(_, inner) => conjunction(inner),
+    match node {
+        Expression::OneConjunction(_, inner) => conjunction_value(inner),
         Expression::Or(..) => unreachable!(),
     }
 }
 
-fn conjunction(c: &Conjunction) -> Result<i64, Trap>
-    requires { is_built_conjunction c.now ≡ true }
-    ensures { (s : Store) → conjunction_value c.now s ≡ evaluated result s }
+fn conjunction_value(node: &Conjunction) -> Result<i64, Trap>
+    requires { is_built_conjunction node.now ≡ true }
+    ensures { (s : Store) → conjunction_value node.now s ≡ evaluated result s }
 {
-    match c {
-        Conjunction::OneEquality(_, inner) => equality(inner),
+    match node {
+        Conjunction::OneEquality(_, inner) => equality_value(inner),
         Conjunction::And(..) => unreachable!(),
     }
 }
 
-fn equality(e: &Equality) -> Result<i64, Trap>
-    requires { is_built_equality e.now ≡ true }
-    ensures { (s : Store) → equality_value e.now s ≡ evaluated result s }
+fn equality_value(node: &Equality) -> Result<i64, Trap>
+    requires { is_built_equality node.now ≡ true }
+    ensures { (s : Store) → equality_value node.now s ≡ evaluated result s }
 {
-    match e {
-        Equality::OneRelation(_, inner) => relation(inner),
+    match node {
+        Equality::OneRelation(_, inner) => relation_value(inner),
         Equality::Equate(..) => unreachable!(),
     }
 }
 
-fn relation(r: &Relation) -> Result<i64, Trap>
-    requires { is_built_relation r.now ≡ true }
-    ensures { (s : Store) → relation_value r.now s ≡ evaluated result s }
+fn relation_value(node: &Relation) -> Result<i64, Trap>
+    requires { is_built_relation node.now ≡ true }
+    ensures { (s : Store) → relation_value node.now s ≡ evaluated result s }
 {
-    match r {
-        Relation::OneSum(_, inner) => sum(inner),
+    match node {
+        Relation::OneSum(_, inner) => sum_value(inner),
         Relation::Compare(..) => unreachable!(),
     }
 }
 
-fn sum(s: &Sum) -> Result<i64, Trap>
-    requires { is_built_sum s.now ≡ true }
-    ensures { (store : Store) → sum_value s.now store ≡ evaluated result store }
+fn sum_value(node: &Sum) -> Result<i64, Trap>
+    requires { is_built_sum node.now ≡ true }
+    ensures { (s : Store) → sum_value node.now s ≡ evaluated result s }
 {
-    match s {
-        Sum::OneTerm(_, inner) => term(inner),
+    match node {
+        Sum::OneTerm(_, inner) => term_value(inner),
         Sum::Add(_, line, left, operator, right) => {
-            let a = sum(left.get())?;
-            let b = term(right)?;
+            let a = sum_value(left.get())?;
+            let b = term_value(right)?;
             let outcome = match operator {
                 SumOperator::Plus => add(a, b),
                 SumOperator::Minus => sub(a, b),
@@ -83,15 +84,15 @@ fn sum(s: &Sum) -> Result<i64, Trap>
     }
 }
 
-fn term(t: &Term) -> Result<i64, Trap>
-    requires { is_built_term t.now ≡ true }
-    ensures { (s : Store) → term_value t.now s ≡ evaluated result s }
+fn term_value(node: &Term) -> Result<i64, Trap>
+    requires { is_built_term node.now ≡ true }
+    ensures { (s : Store) → term_value node.now s ≡ evaluated result s }
 {
-    match t {
-        Term::OneUnary(_, inner) => unary(inner),
+    match node {
+        Term::OneUnary(_, inner) => unary_value(inner),
         Term::Multiply(_, line, left, operator, right) => {
-            let a = term(left.get())?;
-            let b = unary(right)?;
+            let a = term_value(left.get())?;
+            let b = unary_value(right)?;
             match operator {
                 TermOperator::Times => on_line(*line, mul(a, b)),
                 TermOperator::Over | TermOperator::Modulo => unreachable!(),
@@ -100,21 +101,21 @@ fn term(t: &Term) -> Result<i64, Trap>
     }
 }
 
-fn unary(u: &Unary) -> Result<i64, Trap>
-    requires { is_built_unary u.now ≡ true }
-    ensures { (s : Store) → unary_value u.now s ≡ evaluated result s }
+fn unary_value(node: &Unary) -> Result<i64, Trap>
+    requires { is_built_unary node.now ≡ true }
+    ensures { (s : Store) → unary_value node.now s ≡ evaluated result s }
 {
-    match u {
-        Unary::OnePrimary(_, inner) => primary(inner),
+    match node {
+        Unary::OnePrimary(_, inner) => primary_value(inner),
         Unary::Apply(..) => unreachable!(),
     }
 }
 
-fn primary(p: &Primary) -> Result<i64, Trap>
-    requires { is_built_primary p.now ≡ true }
-    ensures { (s : Store) → primary_value p.now s ≡ evaluated result s }
+fn primary_value(node: &Primary) -> Result<i64, Trap>
+    requires { is_built_primary node.now ≡ true }
+    ensures { (s : Store) → primary_value node.now s ≡ evaluated result s }
 {
-    match p {
+    match node {
         Primary::Number(_, number) => Ok(*number),
         Primary::True(..)
         | Primary::False(..)

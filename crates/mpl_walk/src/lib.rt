@@ -5,5 +5,7 @@ mod body;
 mod evaluate;
 mod print;
 mod stop;
+#[cfg(test)]
+mod tests;
 
 pub use body::walk;

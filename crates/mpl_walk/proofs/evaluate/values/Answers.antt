@@ -6,13 +6,13 @@ use Rattle.mpl_mean.specs.Built.{is_built_expression}
 use Rattle.mpl_walk.proofs.Steps.{values_step}
 use Rattle.mpl_walk.proofs.evaluate.values.Goals as goal
 
-pub loop-e-preserved : goal.loop-e-preserved
-loop-e-preserved c =
+pub loop-expression-preserved : goal.loop-expression-preserved
+loop-expression-preserved c =
     let xs = c.args.expressions.now in
-    let i = c.loop-e.e-index in
-    let next : drop i xs ≡ c.e-item.result ∷ drop (i + 1) xs =
-        at_drop_more (λ all. all) xs i c.e-item.result (omega arith) ∙ ap (λ e. e ∷ drop (i + 1) xs) (sym c.e-item.is) in
+    let i = c.loop-expression.expression-index in
+    let next : drop i xs ≡ c.expression-item.result ∷ drop (i + 1) xs =
+    at_drop_more (λ all. all) xs i c.expression-item.result (omega arith) ∙ ap (λ e. e ∷ drop (i + 1) xs) (sym c.expression-item.is) in
     record {
-      built = (and_parts _ _ (ap (list_all is_built_expression) (sym next) ∙ c.loop-e.invariant.built)).1;
-      left = λ s. c.loop-e.invariant.left s ∙ values_step xs i c.e-item.result c.loop-e.words _ c.in_ok-expression.field-0 s next (c.in_ok-expression.ensures s) (search rules);
+      built = (and_parts _ _ (ap (list_all is_built_expression) (sym next) ∙ c.loop-expression.invariant.built)).1;
+      left = λ s. c.loop-expression.invariant.left s ∙ values_step xs i c.expression-item.result c.loop-expression.words _ c.in_ok-expression_value.field-0 s next (c.in_ok-expression_value.ensures s) (search rules);
     }

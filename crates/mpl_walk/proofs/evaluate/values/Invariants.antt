@@ -5,10 +5,10 @@ use Rattle.mpl_mean.specs.Meaning.{value_of, int_value}
 use Rattle.mpl_mean.specs.Store.{Store, all_of, and_then, give}
 use Rattle.mpl_walk.proofs.evaluate.values.Given as goal
 
-abbrev pub invariant-loop-e : goal.invariant-loop-e
-invariant-loop-e l = record {
+abbrev pub invariant-loop-expression : goal.invariant-loop-expression
+invariant-loop-expression l = record {
   -- what is left is built, and its values come behind those that are there
-  built : list_all is_built_expression (drop l.e-index l.expressions) ≡ true;
+  built : list_all is_built_expression (drop l.expression-index l.expressions) ≡ true;
   left : (s : Store) → all_of (map value_of l.expressions) s
-      ≡ and_then (all_of (map value_of (drop l.e-index l.expressions)) s) (λ others. give (map int_value l.words ++ others));
+      ≡ and_then (all_of (map value_of (drop l.expression-index l.expressions)) s) (λ others. give (map int_value l.words ++ others));
 }

@@ -5,10 +5,10 @@ use Rattle.mpl_value.specs.Arithmetic.{product}
 use Rattle.mpl_walk.specs.Evaluated.{evaluated, on_line, term_value, is_built_term}
 use Rattle.mpl_walk.proofs.Parts.{term_parts, is_Times}
 use Rattle.mpl_walk.proofs.Values.{product_value}
-use Rattle.mpl_walk.proofs.evaluate.+term.Goals as goal
+use Rattle.mpl_walk.proofs.evaluate.+term_value.Goals as goal
 
-pub term-requires : goal.term-requires
-term-requires t c =
+pub term_value-requires : goal.term_value-requires
+term_value-requires t c =
     let parts = term_parts _ _ _ _ _ (ap is_built_term (sym c.in-Multiply.is) ∙ c.requires) in
     (search (rules, the_lemmas), ap is_built_term c.get.ensures ∙ parts.0)
 
@@ -23,5 +23,5 @@ returns-in-Times t c = λ s.
     let made : on_line c.in-Multiply.line (product c.in_ok-a-in-Multiply.a c.in_ok-b-in-Multiply.b) ≡ c.on_line.result = search rules in
     ap (λ v. term_value v s) c.in-Multiply.is
     ∙ product_value _ c.in-Multiply.line c.in-Multiply.left c.in-Multiply.operator c.in-Multiply.right _ _ s c.in-Times.is
-        (ap (λ v. term_value v s) (sym c.get.ensures) ∙ c.in_ok-a-in-Multiply.ensures s) (c.in_ok-b-in-Multiply.ensures s)
+    (ap (λ v. term_value v s) (sym c.get.ensures) ∙ c.in_ok-a-in-Multiply.ensures s) (c.in_ok-b-in-Multiply.ensures s)
     ∙ ap (λ r. evaluated r s) made
