@@ -1,5 +1,9 @@
+pub mod Ahead
 pub mod Answer
 pub mod Output
+pub mod Parts
 pub mod Program
+pub mod Reader
+pub mod Stages
 pub mod StatusNumber
 pub mod Words

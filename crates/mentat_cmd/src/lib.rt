@@ -1,9 +1,11 @@
 //! The commands of the program, over any shelf of files, input and outputs.
 #![tactic(auto)]
 
+mod ahead;
 mod command;
 mod output;
 mod parser;
+mod reader;
 mod run;
 mod status;
 #[cfg(test)]

@@ -1,0 +1,27 @@
+use Rattle.std.proofs.Common.{◌≡◌, ◌∙◌, false, refl, ap, sym, arith}
+use Rattle.mpl_ast.specs.declared.statement.Block.{Block}
+use Rattle.mpl_ast.specs.declared.token.Mark.TheVariants as mark_of
+use Rattle.mpl_mean.specs.Reading.{Rest, is_mark}
+use Rattle.mentat_cmd.specs.Ahead.{first_is}
+use Rattle.mentat_cmd.specs.Stages.{BeforeBlock, InBlock}
+use Rattle.mentat_cmd.proofs.Led.{leads-not, leads-no_statement}
+use Rattle.mentat_cmd.proofs.Weights.{block-light}
+use Rattle.mentat_cmd.proofs.Whole.{led-seen_mark}
+use Rattle.mentat_cmd.proofs.reader.Reader.block.Goals as goal
+
+pub returns-then-not-sees_mark-clause-unfit : goal.returns-then-not-sees_mark-clause-unfit
+returns-then-not-sees_mark-clause-unfit c = λ _.
+    leads-not (is_mark mark_of.OpenBrace) BeforeBlock InBlock c.args.self.now.left.now refl (λ k. refl) (sym c.sees_mark.ensures ∙ c.if-not-sees_mark.true)
+
+pub returns-in_err-mark_line-clause-unfit : goal.returns-in_err-mark_line-clause-unfit
+returns-in_err-mark_line-clause-unfit c = λ unfit.
+    let same = ap (λ (r : Rest). r.tokens) c.start-start.ensures.after in
+    let failed : first_is (is_mark mark_of.CloseBrace) c.statements.new.self.left.now ≡ false = grind arith in
+    led-seen_mark BeforeBlock InBlock mark_of.OpenBrace c.take.result.now c.args.self.now.left.now c.take.new.self.left.now refl (sym same ∙ c.take.ensures.tokens) (sym c.sees_mark.ensures ∙ c.if-not-sees_mark.false)
+    ∙ c.in_ok-statements.ensures.leads
+    ∙ leads-no_statement c.statements.new.self.left.now c.in_ok-statements.ensures.end failed
+
+pub returns-clause-light : goal.returns-clause-light
+returns-clause-light c =
+    let b : Block = record { at = c.finish.result; mark_line = c.in_ok-mark_line.mark_line; statements = c.in_ok-statements.statements } in
+    block-light b c.in_ok-statements.ensures.built ∙ c.in_ok-statements.ensures.light
