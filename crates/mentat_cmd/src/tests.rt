@@ -5,6 +5,7 @@ use std::alloc::Global;
 use std::test::Fail;
 
 /// A command's ending, and what it wrote to its output.
+#[derive(Drop)]
 struct Run {
     ending: Ending,
     out: MemSink,

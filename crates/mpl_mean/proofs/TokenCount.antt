@@ -1,7 +1,6 @@
 -- A source has no more tokens than bytes.
 use Rattle.std.proofs.Common.{◌≡◌, ℕ, zero, suc, ◌+◌, ◌-◌, ◌≤◌, List, [], ◌∷◌, length, Result, Ok, Err, arith, ap, refl}
 use Rattle.mpl_ast.specs.declared.token.Token.{Token}
-use Rattle.mpl_ast.specs.declared.token.TokenKind.{TokenKind}
 use Rattle.mpl_mean.specs.Lexemes.{LexicalFault, Lexeme, Gap, Word, Fault, lexeme, tokens_from, with_token, line_after}
 
 abbrev Found : Type 0

@@ -2,6 +2,7 @@
 use Rattle.std.proofs.Common.{◌≡◌, ℕ, Bool, ap, List, [], ◌∷◌, ◌++◌, Ok, None, refl, true, pos}
 use Rattle.std.specs.Prelude.{codes}
 use Rattle.std.specs.Fmt.{digits}
+use Rattle.std.specs.FinMap.{empty}
 use Rattle.mpl_ast.specs.declared.expression.Conjunction.{roll-Conjunction, fold-roll-Conjunction}
 use Rattle.mpl_ast.specs.declared.expression.Equality.{roll-Equality, fold-roll-Equality}
 use Rattle.mpl_ast.specs.declared.expression.Expression.{Expression, roll-Expression, fold-roll-Expression}
@@ -28,9 +29,12 @@ use Rattle.mpl_value.specs.declared.body.BodyResult.TheVariants.{Open}
 use Rattle.mpl_value.specs.declared.body.Yield.{Yield}
 use Rattle.mpl_value.specs.Arithmetic.{sum}
 use Rattle.mpl_mean.specs.Built.{is_built}
-use Rattle.mpl_mean.specs.DirectRun.{direct_run, main_start}
+use Rattle.mpl_mean.specs.DirectRun.{direct_run}
 use Rattle.mpl_mean.specs.Lexemes.{tokens_of}
-use Rattle.mpl_mean.specs.Meaning.{Does, does, arithmetic_of, int_value, line_of, store_at_start, yield_of_outcome}
+use Rattle.mpl_mean.specs.BodyMeaning.{below_at, context_with, main_yield, store_with}
+use Rattle.mpl_mean.specs.ExpressionMeaning.{Evaluates, value_of, arithmetic_of}
+use Rattle.mpl_mean.specs.StatementMeaning.{Does, does, line_of}
+use Rattle.mpl_mean.specs.Values.{int_value}
 use Rattle.mpl_mean.specs.ProgramText.{spells, nothing_left, all_of}
 use Rattle.mpl_mean.specs.Reading.{Reads, ◌>>◌, node, token, is_number, keyword, mark, mark_on, name, each, separated, optional}
 use Rattle.mpl_mean.specs.StatementText.{StatementText, statement_of, closed, block_of}
@@ -116,11 +120,21 @@ has_weights = ap weights_with statement_weight
 
 -- ---- what it does
 
-statement_does : does statement ≡ all_values (arithmetic_of 1 sum (give (int_value (pos 1))) (give (int_value (pos 2))) ∷ []) >>= (λ values. printed (line_of values))
-statement_does = simp layers
+abbrev argument_value : Evaluates
+argument_value = arithmetic_of 1 sum (λ _. give (int_value (pos 1))) (λ _. give (int_value (pos 2)))
+
+argument_means : value_of argument ≡ argument_value
+argument_means = simp layers
+
+-- what prints the value of its one argument
+abbrev prints : Evaluates → Does
+prints argument context = all_values (argument context ∷ []) >>= (λ values. printed (line_of values))
+
+statement_does : does statement ≡ prints argument_value
+statement_does = simp fold-roll-Statement (ap prints argument_means)
 
 abbrev run_with : Does → Yield
-run_with doing = yield_of_outcome ((spend 1 >>= (λ _. in_turn (doing ∷ []))) (store_at_start (main_start [])))
+run_with doing = main_yield ((spend 1 >>= (λ _. in_turn (doing (context_with program.declarations 1 empty (below_at 1 program.declarations 1 empty)) ∷ []))) (store_with [] [] [] 0))
 
 runs : direct_run program [] 1 ≡ record { lines = codes "3" ++ 10 ∷ []; calls = []; creations = []; result = Open; state = []; turns = 1; end = Done }
 unfolding digits

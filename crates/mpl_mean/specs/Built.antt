@@ -1,5 +1,5 @@
 -- Which programs are built so far: `int main()` whose statements print numbers, their sums, differences and products.
-use Rattle.std.specs.Prelude.{ℕ, Bool, true, false, ◌&&◌, List, [], ◌∷◌, codes, Option, None, Some}
+use Rattle.std.specs.Prelude.{Bool, true, false, ◌&&◌, List, [], ◌∷◌, codes, Option, None, Some}
 use Rattle.std.specs.List.{list_all}
 use Rattle.std.specs.Str.{bytes_eq}
 use Rattle.mpl_ast.specs.declared.class.Formals.{Formals}
@@ -10,7 +10,7 @@ use Rattle.mpl_ast.specs.declared.expression.TermOperator.TheVariants as term
 use Rattle.mpl_ast.specs.declared.program.Declaration.{Declaration}
 use Rattle.mpl_ast.specs.declared.program.Declaration.TheVariants as declaration
 use Rattle.mpl_ast.specs.declared.program.Program.{Program}
-use Rattle.mpl_ast.specs.declared.statement.Block.{Block, Block-F}
+use Rattle.mpl_ast.specs.declared.statement.Block.{Block-F}
 use Rattle.mpl_ast.specs.declared.statement.Statement.{Statement, fold-Statement}
 use Rattle.mpl_ast.specs.declared.statement.Statement.TheOpen.{Statement-F}
 use Rattle.mpl_ast.specs.declared.statement.TypeName.{TypeName}

@@ -6,7 +6,7 @@ use Rattle.mpl_value.specs.declared.body.BodyEnd.{BodyEnd}
 use Rattle.mpl_value.specs.declared.body.BodyEnd.TheVariants as end
 use Rattle.mpl_value.specs.declared.body.BodyStart.{BodyStart}
 use Rattle.mpl_value.specs.declared.body.Yield.{Yield}
-use Rattle.mpl_mean.specs.Meaning.{yield_of}
+use Rattle.mpl_mean.specs.BodyMeaning.{yield_of}
 
 -- the start of `main`
 abbrev pub main_start : List ℤ → BodyStart

@@ -1,14 +1,6 @@
 -- The tokens of expressions.
-use Rattle.std.specs.Prelude.{Option}
-use Rattle.mpl_ast.specs.declared.expression.Conjunction.{Conjunction, fold-Conjunction}
-use Rattle.mpl_ast.specs.declared.expression.Equality.{Equality, fold-Equality}
 use Rattle.mpl_ast.specs.declared.expression.Expression.{Expression, fold-Expression}
 use Rattle.mpl_ast.specs.declared.expression.Place.{Place, fold-Place}
-use Rattle.mpl_ast.specs.declared.expression.Primary.{Primary, fold-Primary}
-use Rattle.mpl_ast.specs.declared.expression.Relation.{Relation, fold-Relation}
-use Rattle.mpl_ast.specs.declared.expression.Sum.{Sum, fold-Sum}
-use Rattle.mpl_ast.specs.declared.expression.Term.{Term, fold-Term}
-use Rattle.mpl_ast.specs.declared.expression.Unary.{Unary, fold-Unary}
 use Rattle.mpl_ast.specs.declared.expression.Conjunction.TheOpen.{Conjunction-F, Equality-F, Expression-F, Place-F, Primary-F, Relation-F, Sum-F, Term-F, Unary-F}
 use Rattle.mpl_ast.specs.declared.expression.EqualityOperator.{EqualityOperator}
 use Rattle.mpl_ast.specs.declared.expression.EqualityOperator.TheVariants.{Equal, Unequal}
@@ -25,7 +17,7 @@ use Rattle.mpl_ast.specs.declared.expression.Target.TheVariants.{Variable, Field
 use Rattle.mpl_ast.specs.declared.token.Keyword.TheVariants as word
 use Rattle.mpl_ast.specs.declared.token.Mark.{Mark}
 use Rattle.mpl_ast.specs.declared.token.Mark.TheVariants as m
-use Rattle.mpl_mean.specs.Reading.{Reads, nothing, ◌>>◌, node, mark, mark_on, keyword, name, token, is_number, separated_if_any}
+use Rattle.mpl_mean.specs.Reading.{Reads, ◌>>◌, node, mark, mark_on, keyword, name, token, is_number, separated_if_any}
 
 -- ---- the mark of an operator
 

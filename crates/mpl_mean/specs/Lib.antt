@@ -6,6 +6,13 @@ pub mod StatementText
 pub mod ProgramText
 pub mod Weight
 pub mod Built
+pub mod Layout
 pub mod Store
-pub mod Meaning
+pub mod Context
+pub mod Values
+pub mod PlaceMeaning
+pub mod ExpressionMeaning
+pub mod CallMeaning
+pub mod StatementMeaning
+pub mod BodyMeaning
 pub mod DirectRun

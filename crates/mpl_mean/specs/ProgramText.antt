@@ -1,5 +1,5 @@
 -- The tokens of a program.
-use Rattle.std.specs.Prelude.{◌≡◌, ℕ, Bool, true, false, ◌&&◌, ◌==◌, List, [], ◌∷◌, map, Option, Some, None, if◌then◌else◌}
+use Rattle.std.specs.Prelude.{Bool, true, false, ◌&&◌, ◌==◌, List, [], ◌∷◌, map, Option, Some, None, if◌then◌else◌}
 use Rattle.std.specs.Option.{option_map}
 use Rattle.mpl_ast.specs.declared.class.Entry.{Entry}
 use Rattle.mpl_ast.specs.declared.class.Field.{Field}
@@ -13,14 +13,13 @@ use Rattle.mpl_ast.specs.declared.class.Kind.TheVariants.{Regular, Persistent}
 use Rattle.mpl_ast.specs.declared.class.ResultType.{ResultType}
 use Rattle.mpl_ast.specs.declared.class.ResultType.TheVariants.{Void, Typed}
 use Rattle.mpl_ast.specs.declared.expression.Expression.{Expression}
-use Rattle.mpl_ast.specs.declared.place.At.{At}
 use Rattle.mpl_ast.specs.declared.program.Declaration.{Declaration}
 use Rattle.mpl_ast.specs.declared.program.Declaration.TheVariants as declaration
 use Rattle.mpl_ast.specs.declared.program.Program.{Program}
 use Rattle.mpl_ast.specs.declared.token.Keyword.TheVariants as word
 use Rattle.mpl_ast.specs.declared.token.Mark.TheVariants as m
 use Rattle.mpl_ast.specs.declared.token.Token.{Token}
-use Rattle.mpl_mean.specs.Reading.{Reads, Rest, nothing, ◌>>◌, node, mark, mark_on, keyword, name, number, each, separated, optional, begins, ended}
+use Rattle.mpl_mean.specs.Reading.{Reads, Rest, ◌>>◌, node, mark, mark_on, keyword, name, number, each, separated, optional}
 use Rattle.mpl_mean.specs.ExpressionText.{expression_text}
 use Rattle.mpl_mean.specs.StatementText.{block_text, dimension_text, type_text}
 

@@ -1,7 +1,6 @@
 -- The tokens of calls and statements.
-use Rattle.std.specs.Prelude.{ℕ, Bool, true, false, not, ◌&&◌, List, [], ◌∷◌, map, Option, Some, None, if◌then◌else◌}
+use Rattle.std.specs.Prelude.{ℕ, Bool, true, false, List, map, Some, None, if◌then◌else◌}
 use Rattle.std.specs.Option.{option_map}
-use Rattle.mpl_ast.specs.declared.expression.Expression.{Expression}
 use Rattle.mpl_ast.specs.declared.flow.Assignment.{Assignment}
 use Rattle.mpl_ast.specs.declared.flow.Call.{Call, fold-Call}
 use Rattle.mpl_ast.specs.declared.flow.Flow.{Flow, fold-Flow}
@@ -21,7 +20,7 @@ use Rattle.mpl_ast.specs.declared.statement.TypeName.{TypeName}
 use Rattle.mpl_ast.specs.declared.statement.TypeName.TheVariants as type
 use Rattle.mpl_ast.specs.declared.token.Keyword.TheVariants as word
 use Rattle.mpl_ast.specs.declared.token.Mark.TheVariants as m
-use Rattle.mpl_mean.specs.Reading.{Reads, Rest, nothing, ◌>>◌, node, mark, mark_on, keyword, name, number, each, separated, separated_if_any, optional}
+use Rattle.mpl_mean.specs.Reading.{Reads, ◌>>◌, node, mark, mark_on, keyword, name, number, each, separated, separated_if_any, optional}
 use Rattle.mpl_mean.specs.ExpressionText.{expression_text, place_text, target_text}
 
 -- ---- calls

@@ -2,7 +2,7 @@
 -- open behind the token, the words `if`, `while`, `for` and `else` up to it whose statement has not ended before
 -- it, and the operators up to it of expressions that have not ended before it. For an `if` the statement is the one
 -- before its `else`, and an expression is a whole one, no operand of an operator.
-use Rattle.std.specs.Prelude.{◌≡◌, ℕ, ◌+◌, ◌-◌, Bool, true, false, List, [], ◌∷◌, ◌++◌, map, nat_le, Option, Some, None, if◌then◌else◌}
+use Rattle.std.specs.Prelude.{ℕ, ◌+◌, ◌-◌, Bool, List, [], ◌∷◌, ◌++◌, map, nat_le, Option, Some, None}
 use Rattle.std.specs.Option.{option_map}
 use Rattle.std.specs.List.{list_all}
 use Rattle.mpl_ast.specs.declared.class.Entry.{Entry}
@@ -12,7 +12,6 @@ use Rattle.mpl_ast.specs.declared.class.Formal.{Formal}
 use Rattle.mpl_ast.specs.declared.class.Formals.{Formals}
 use Rattle.mpl_ast.specs.declared.class.Item.{Item}
 use Rattle.mpl_ast.specs.declared.class.Item.TheVariants as item
-use Rattle.mpl_ast.specs.declared.class.ResultType.{ResultType}
 use Rattle.mpl_ast.specs.declared.expression.Expression.{Expression, fold-Expression}
 use Rattle.mpl_ast.specs.declared.expression.Place.{Place, fold-Place}
 use Rattle.mpl_ast.specs.declared.expression.Conjunction.TheOpen.{Conjunction-F, Equality-F, Expression-F, Place-F, Primary-F, Relation-F, Sum-F, Term-F, Unary-F}

@@ -8,9 +8,10 @@ use Rattle.mpl_ast.specs.declared.expression.Sum.{Sum, fold-Sum}
 use Rattle.mpl_ast.specs.declared.expression.Term.{Term, fold-Term}
 use Rattle.mpl_ast.specs.declared.expression.Unary.{Unary, fold-Unary}
 use Rattle.mpl_mean.specs.Built as built
-use Rattle.mpl_mean.specs.Meaning as mean
-use Rattle.mpl_mean.specs.Meaning.{Evaluates, int_value}
-use Rattle.mpl_mean.specs.Store.{give, stop}
+use Rattle.mpl_mean.specs.ExpressionMeaning as mean
+use Rattle.mpl_mean.specs.ExpressionMeaning.{Evaluates}
+use Rattle.mpl_mean.specs.Values.{Value, int_value}
+use Rattle.mpl_mean.specs.Store.{Doing, give, stop}
 use Rattle.mpl_value.specs.declared.body.BodyEnd.TheVariants as end
 use Rattle.mpl_value.specs.declared.known.Trap.{Trap}
 use Rattle.mpl_value.specs.declared.known.TrapKind.{TrapKind}
@@ -21,9 +22,13 @@ on_line line (Ok z) = Ok z
 on_line line (Err kind) = Err (record { kind = kind; line = line })
 
 -- a number, or the trap in its place
-abbrev pub evaluated : Result ℤ Trap → Evaluates
+abbrev pub evaluated : Result ℤ Trap → Doing Value
 evaluated (Ok z) = give (int_value z)
 evaluated (Err trap) = stop (end.Trap trap)
+
+-- whatever the body runs in
+abbrev pub always : Result ℤ Trap → Evaluates
+always outcome context = evaluated outcome
 
 abbrev pub conjunction_value : Conjunction → Evaluates
 conjunction_value = fold-Conjunction Evaluates Evaluates Evaluates Evaluates Evaluates Evaluates Evaluates Evaluates Evaluates

@@ -2,7 +2,8 @@ ghost use Rattle.std.specs.Prelude.{◌≡◌, ◌≤◌, ◌<◌, true, None, I
 ghost use Rattle.std.specs.List.{list_all};
 ghost use Rattle.mpl_mean.specs.Built.{is_built, is_built_statement};
 ghost use Rattle.mpl_mean.specs.DirectRun.{IsOver};
-ghost use Rattle.mpl_mean.specs.Meaning.{yield_of, main_of, does};
+ghost use Rattle.mpl_mean.specs.BodyMeaning.{yield_of, main_statements};
+ghost use Rattle.mpl_mean.specs.StatementMeaning.{does};
 ghost use Rattle.mpl_mean.specs.Store.{in_turn};
 ghost use Rattle.mpl_walk.specs.Runs.{Runs};
 
@@ -33,7 +34,7 @@ pub fn walk(
     let end = if budget == 0 {
         BodyEnd::Spent
     } else {
-        match run_all(alloc, main_statements(program), &mut lines) {
+        match run_all(alloc, statements_of_main(program), &mut lines) {
             Ok(()) => BodyEnd::Done,
             Err(Stop::Trap(trap)) => BodyEnd::Trap(trap),
             Err(Stop::NoMemory) => return Err(NoMemory),
@@ -50,9 +51,9 @@ pub fn walk(
     })
 }
 
-fn main_statements(program: &Program) -> &[Statement]
+fn statements_of_main(program: &Program) -> &[Statement]
     requires { is_built program.now ≡ true }
-    ensures statements { result.now ≡ main_of program.now.declarations }
+    ensures statements { result.now ≡ main_statements program.now.declarations }
     ensures built { list_all is_built_statement result.now ≡ true }
 {
     match program.declarations.as_slice() {
@@ -63,7 +64,7 @@ fn main_statements(program: &Program) -> &[Statement]
 
 fn run_all(alloc: Global, statements: &[Statement], lines: &mut Bytes) -> Result<(), Stop>
     requires { list_all is_built_statement statements.now ≡ true }
-    ensures { Runs (in_turn (map does statements.now)) lines.old lines.new result }
+    ensures { Runs (λ context. in_turn (map (λ t. does t context) statements.now)) lines.old lines.new result }
 {
     for statement in statements {
         run(alloc, statement, lines)?;

@@ -1,9 +1,9 @@
 ghost use Rattle.std.specs.Prelude.{◌≡◌, true, map};
 ghost use Rattle.std.specs.List.{list_all};
 ghost use Rattle.mpl_mean.specs.Built.{is_built_expression};
-ghost use Rattle.mpl_mean.specs.Meaning.{value_of};
-ghost use Rattle.mpl_mean.specs.Store.{Store, all_of};
-ghost use Rattle.mpl_walk.specs.Evaluated.{evaluated, conjunction_value, equality_value, relation_value, sum_value, term_value, unary_value, primary_value, on_line, is_built_conjunction, is_built_equality, is_built_relation, is_built_sum, is_built_term, is_built_unary, is_built_primary};
+ghost use Rattle.mpl_mean.specs.ExpressionMeaning.{value_of};
+ghost use Rattle.mpl_mean.specs.Store.{all_of};
+ghost use Rattle.mpl_walk.specs.Evaluated.{always, conjunction_value, equality_value, relation_value, sum_value, term_value, unary_value, primary_value, on_line, is_built_conjunction, is_built_equality, is_built_relation, is_built_sum, is_built_term, is_built_unary, is_built_primary};
 ghost use Rattle.mpl_walk.specs.Runs.{GivesAll};
 
 use crate::stop::Stop;
@@ -17,7 +17,7 @@ use std::alloc::Global;
 /// The values of expressions, from left to right up to the first trap.
 pub fn values(alloc: Global, expressions: &[Expression]) -> Result<Words, Stop>
     requires { list_all is_built_expression expressions.now ≡ true }
-    ensures { GivesAll (all_of (map value_of expressions.now)) result }
+    ensures { GivesAll (λ context. all_of (map (λ e. value_of e context) expressions.now)) result }
 {
     let mut words = Words::new(alloc);
     for expression in expressions {
@@ -28,7 +28,7 @@ pub fn values(alloc: Global, expressions: &[Expression]) -> Result<Words, Stop>
 
 fn expression_value(node: &Expression) -> Result<i64, Trap>
     requires { is_built_expression node.now ≡ true }
-    ensures { (s : Store) → value_of node.now s ≡ evaluated result s }
+    ensures { value_of node.now ≡ always result }
 {
     match node {
         Expression::OneConjunction(_, inner) => conjunction_value(inner),
@@ -38,7 +38,7 @@ fn expression_value(node: &Expression) -> Result<i64, Trap>
 
 fn conjunction_value(node: &Conjunction) -> Result<i64, Trap>
     requires { is_built_conjunction node.now ≡ true }
-    ensures { (s : Store) → conjunction_value node.now s ≡ evaluated result s }
+    ensures { conjunction_value node.now ≡ always result }
 {
     match node {
         Conjunction::OneEquality(_, inner) => equality_value(inner),
@@ -48,7 +48,7 @@ fn conjunction_value(node: &Conjunction) -> Result<i64, Trap>
 
 fn equality_value(node: &Equality) -> Result<i64, Trap>
     requires { is_built_equality node.now ≡ true }
-    ensures { (s : Store) → equality_value node.now s ≡ evaluated result s }
+    ensures { equality_value node.now ≡ always result }
 {
     match node {
         Equality::OneRelation(_, inner) => relation_value(inner),
@@ -58,7 +58,7 @@ fn equality_value(node: &Equality) -> Result<i64, Trap>
 
 fn relation_value(node: &Relation) -> Result<i64, Trap>
     requires { is_built_relation node.now ≡ true }
-    ensures { (s : Store) → relation_value node.now s ≡ evaluated result s }
+    ensures { relation_value node.now ≡ always result }
 {
     match node {
         Relation::OneSum(_, inner) => sum_value(inner),
@@ -68,7 +68,7 @@ fn relation_value(node: &Relation) -> Result<i64, Trap>
 
 fn sum_value(node: &Sum) -> Result<i64, Trap>
     requires { is_built_sum node.now ≡ true }
-    ensures { (s : Store) → sum_value node.now s ≡ evaluated result s }
+    ensures { sum_value node.now ≡ always result }
 {
     match node {
         Sum::OneTerm(_, inner) => term_value(inner),
@@ -86,7 +86,7 @@ fn sum_value(node: &Sum) -> Result<i64, Trap>
 
 fn term_value(node: &Term) -> Result<i64, Trap>
     requires { is_built_term node.now ≡ true }
-    ensures { (s : Store) → term_value node.now s ≡ evaluated result s }
+    ensures { term_value node.now ≡ always result }
 {
     match node {
         Term::OneUnary(_, inner) => unary_value(inner),
@@ -103,7 +103,7 @@ fn term_value(node: &Term) -> Result<i64, Trap>
 
 fn unary_value(node: &Unary) -> Result<i64, Trap>
     requires { is_built_unary node.now ≡ true }
-    ensures { (s : Store) → unary_value node.now s ≡ evaluated result s }
+    ensures { unary_value node.now ≡ always result }
 {
     match node {
         Unary::OnePrimary(_, inner) => primary_value(inner),
@@ -113,7 +113,7 @@ fn unary_value(node: &Unary) -> Result<i64, Trap>
 
 fn primary_value(node: &Primary) -> Result<i64, Trap>
     requires { is_built_primary node.now ≡ true }
-    ensures { (s : Store) → primary_value node.now s ≡ evaluated result s }
+    ensures { primary_value node.now ≡ always result }
 {
     match node {
         Primary::Number(_, number) => Ok(*number),

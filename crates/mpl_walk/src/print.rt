@@ -1,6 +1,7 @@
 ghost use Rattle.std.specs.Prelude.{◌≡◌, ◌++◌, map, OnOk};
 ghost use Rattle.std.specs.Fmt.{signed_decimal};
-ghost use Rattle.mpl_mean.specs.Meaning.{line_of, int_value};
+ghost use Rattle.mpl_mean.specs.StatementMeaning.{line_of};
+ghost use Rattle.mpl_mean.specs.Values.{int_value};
 
 use mpl_value::{Bytes, NoMemory};
 use std::alloc::Global;

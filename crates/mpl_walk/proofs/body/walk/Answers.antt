@@ -1,5 +1,6 @@
 use Rattle.std.proofs.Common.{[], map, rules, arith, Ok, Err}
-use Rattle.mpl_mean.specs.Meaning.{does, main_of}
+use Rattle.mpl_mean.specs.BodyMeaning.{main_statements}
+use Rattle.mpl_mean.specs.StatementMeaning.{does}
 use Rattle.mpl_mean.specs.Store.{in_turn}
 use Rattle.mpl_walk.specs.declared.stop.Stop.TheVariants as stop
 use Rattle.mpl_walk.specs.Runs.{Runs}
@@ -16,13 +17,13 @@ returns c =
       | else-budget-eq0 w ↦
           elim w.match-run_all.branch [
             | in-Ok w' ↦
-                let runs : Runs (in_turn (map does (main_of p.declarations))) [] w.run_all.new.lines (Ok tt) = λ s. cc (w'.in-Ok.ensures s) in
-                let yields = yield_done p start c.args.replies.now c.args.budget w.run_all.new.lines (omega arith) runs in
+                let runs : Runs (λ context. in_turn (map (λ t. does t context) (main_statements p.declarations))) [] w.run_all.new.lines (Ok tt) = λ context s. cc (w'.in-Ok.ensures context s) in
+                let yields = yield_done p start c.args.replies.now c.args.budget w.run_all.new.lines c.requires.main (omega arith) runs in
                 search rules
             | in-Err-Trap w' ↦
                 let told = rw w'.in-Err-Trap.field-0-is at w'.in-Err-Trap.ensures in
-                let runs : Runs (in_turn (map does (main_of p.declarations))) [] w.run_all.new.lines (Err (stop.Trap w'.in-Err-Trap.trap)) = λ s. cc (told s) in
-                let yields = yield_trapped p start c.args.replies.now c.args.budget w.run_all.new.lines w'.in-Err-Trap.trap (omega arith) runs in
+                let runs : Runs (λ context. in_turn (map (λ t. does t context) (main_statements p.declarations))) [] w.run_all.new.lines (Err (stop.Trap w'.in-Err-Trap.trap)) = λ context s. cc (told context s) in
+                let yields = yield_trapped p start c.args.replies.now c.args.budget w.run_all.new.lines w'.in-Err-Trap.trap c.requires.main (omega arith) runs in
                 search rules
           ]
     ]

@@ -14,5 +14,5 @@ loop-expression-preserved c =
     at_drop_more (λ all. all) xs i c.expression-item.result (omega arith) ∙ ap (λ e. e ∷ drop (i + 1) xs) (sym c.expression-item.is) in
     record {
       built = (and_parts _ _ (ap (list_all is_built_expression) (sym next) ∙ c.loop-expression.invariant.built)).1;
-      left = λ s. c.loop-expression.invariant.left s ∙ values_step xs i c.expression-item.result c.loop-expression.words _ c.in_ok-expression_value.field-0 s next (c.in_ok-expression_value.ensures s) (search rules);
+      left = λ context s. c.loop-expression.invariant.left context s ∙ values_step xs i c.expression-item.result c.loop-expression.words _ c.in_ok-expression_value.field-0 context s next c.in_ok-expression_value.ensures (search rules);
     }

@@ -1,5 +1,6 @@
 use Rattle.std.proofs.Common.{◌≡◌, map, drop, ◌++◌}
-use Rattle.mpl_mean.specs.Meaning.{line_of, texts_after_first, int_value}
+use Rattle.mpl_mean.specs.StatementMeaning.{line_of, texts_after_first}
+use Rattle.mpl_mean.specs.Values.{int_value}
 use Rattle.mpl_walk.proofs.print.print_line.Given as goal
 
 -- the line is what is there of it, and then the texts that are left
