@@ -6,7 +6,7 @@ use std::test::Fail;
 
 /// A command's ending, and what it wrote to its output.
 #[derive(Drop)]
-struct Run {
+struct Answer {
     ending: Ending,
     out: MemSink,
 }
@@ -17,7 +17,7 @@ fn calls(alloc: Global, numbers: &[i64]) -> Result<Words, NoMemory> {
 }
 
 /// Gives these words to a command whose shelf has one file, `a.mpl`.
-fn command(alloc: Global, words: &[&str], source: &[u8], out: MemSink) -> Result<Run, NoMemory> {
+fn command(alloc: Global, words: &[&str], source: &[u8], out: MemSink) -> Result<Answer, NoMemory> {
     let mut out = out;
     let mut shelf = MemShelf::new(alloc, Words::new(alloc));
     shelf.add_file(Text::of(alloc, "a.mpl")?, Bytes::from_slice(alloc, source)?)?;
@@ -35,11 +35,11 @@ fn command(alloc: Global, words: &[&str], source: &[u8], out: MemSink) -> Result
         &mut out,
         &mut err,
     );
-    Ok(Run { ending, out })
+    Ok(Answer { ending, out })
 }
 
 /// Runs a source over an output that takes everything.
-fn run(alloc: Global, source: &str) -> Result<Run, NoMemory> {
+fn run(alloc: Global, source: &str) -> Result<Answer, NoMemory> {
     let out = MemSink::new(alloc, 10000, Words::new(alloc));
     command(alloc, &["run", "a.mpl"], source.as_bytes(), out)
 }
