@@ -1,6 +1,2 @@
 pub mod Evaluated
-pub mod FirstForm
-pub mod Found
-pub mod Held
 pub mod Runs
-pub mod WholeName
