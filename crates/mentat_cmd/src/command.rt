@@ -28,6 +28,7 @@ pub fn quiet_command<F: Shelf, S: Source, K: Sink, E: Sink>(
     // The words are not of the form of a command, and then no file is asked for.
     ensures usage { (result.status ≡ Status.Usage) ↔ (file_of words.now ≡ None) }
     ensures unread { file_of words.now ≡ None → shelf.new ≡ shelf.old }
+    ensures idle { file_of words.now ≡ None → result.turns ≡ 0 }
 
     // Reading the file failed, which a shelf that is sure of it rules out.
     ensures read_fault { result.status ≡ Status.ReadFault → Rose (F.faults shelf.old) (F.faults shelf.new) }
