@@ -1,34 +1,48 @@
 -- One step after another.
-use Rattle.std.proofs.Common.{◌≡◌, ℕ, ◌+◌, List, [], ◌∷◌, ◌++◌, map, drop, ℤ, Ok, refl, ap, sym, ◌∙◌}
-use Rattle.mpl_ast.specs.declared.expression.Expression.{Expression}
-use Rattle.mpl_mean.specs.Context.{Context}
-use Rattle.mpl_mean.specs.ExpressionMeaning.{Evaluates, value_of}
-use Rattle.mpl_mean.specs.Values.{Value, int_value}
-use Rattle.mpl_mean.specs.Store.{Store, Outcome, Goes, Returns, Ends, all_of, and_then, give}
-use Rattle.mpl_walk.specs.Evaluated.{always}
+use Rattle.std.proofs.Common.{◌≡◌, ℕ, ◌+◌, List, [], ◌∷◌, ◌++◌, map, drop, append_assoc, refl, ap, sym, ◌∙◌}
+use Rattle.std.proofs.lemmas.List.{append-nil, map-append}
+use Rattle.mpl_mean.specs.Store.{Store, Outcome, Goes, Returns, Ends, Doing, all_of, and_then, give}
+use Rattle.mpl_value.specs.declared.body.BodyEnd.{BodyEnd}
 
 -- the values that are there come before the others
-abbrev pub behind : List ℤ → Outcome (List Value) → Outcome (List Value)
-behind words outcome = and_then outcome (λ others. give (map int_value words ++ others))
+abbrev pub behind : {B : Type 0} → List B → Outcome (List B) → Outcome (List B)
+behind done outcome = and_then outcome (λ others. give (done ++ others))
 
-map-append_one : (words : List ℤ) (z : ℤ) (others : List Value) → map int_value words ++ (int_value z ∷ others) ≡ map int_value (words ++ z ∷ []) ++ others
-map-append_one [] z others = refl
-map-append_one (word ∷ words) z others = ap (λ all. int_value word ∷ all) (map-append_one words z others)
+behind_more : {B : Type 0} (done : List B) (b : B) (others : Outcome (List B))
+    → behind done (and_then others (λ more. give (b ∷ more))) ≡ behind (done ++ b ∷ []) others
+behind_more done b (Goes more store) = ap (λ all. Goes all store) (sym (append_assoc done (b ∷ []) more))
+behind_more done b (Returns words store) = refl
+behind_more done b (Ends end store) = refl
 
-behind_more : (words : List ℤ) (z : ℤ) (others : Outcome (List Value))
-    → behind words (and_then others (λ more. give (int_value z ∷ more))) ≡ behind (words ++ z ∷ []) others
-behind_more words z (Goes more store) = ap (λ all. Goes all store) (map-append_one words z more)
-behind_more words z (Returns more store) = refl
-behind_more words z (Ends end store) = refl
+pub all_step : {X B : Type 0} (f : X → Doing B) (xs : List X) (i : ℕ) (x : X) (done : List B) (b : B) (s : Store)
+    → drop i xs ≡ x ∷ drop (i + 1) xs → f x s ≡ Goes b s
+    → behind done (all_of (map f (drop i xs)) s) ≡ behind (done ++ b ∷ []) (all_of (map f (drop (i + 1) xs)) s)
+all_step f xs i x done b s next gives =
+    ap (λ rest. behind done (all_of (map f rest) s)) next
+    ∙ ap (λ outcome. behind done (and_then outcome (λ value. λ after. and_then (all_of (map f (drop (i + 1) xs)) after) (λ values. give (value ∷ values))))) gives
+    ∙ behind_more done b (all_of (map f (drop (i + 1) xs)) s)
 
--- an expression that gives its number leaves the others
-pub values_step : (xs : List Expression) (i : ℕ) (x : Expression) (words more : List ℤ) (z : ℤ) (context : Context) (s : Store)
-    → drop i xs ≡ x ∷ drop (i + 1) xs
-    → value_of x ≡ always (Ok z)
-    → more ≡ words ++ z ∷ []
-    → behind words (all_of (map (λ e. value_of e context) (drop i xs)) s) ≡ behind more (all_of (map (λ e. value_of e context) (drop (i + 1) xs)) s)
-values_step xs i x words more z context s next gives pushed =
-    ap (λ rest. behind words (all_of (map (λ e. value_of e context) rest) s)) next
-    ∙ ap (λ outcome. behind words (and_then outcome (λ value. λ after. and_then (all_of (map (λ e. value_of e context) (drop (i + 1) xs)) after) (λ values. give (value ∷ values))))) (ap (λ (v : Evaluates). v context s) gives)
-    ∙ behind_more words z (all_of (map (λ e. value_of e context) (drop (i + 1) xs)) s)
-    ∙ ap (λ all. behind all (all_of (map (λ e. value_of e context) (drop (i + 1) xs)) s)) (sym pushed)
+pub all_stops : {X B : Type 0} (f : X → Doing B) (xs : List X) (i : ℕ) (x : X) (done : List B) (end : BodyEnd) (s t : Store)
+    → drop i xs ≡ x ∷ drop (i + 1) xs → f x s ≡ Ends end t
+    → behind done (all_of (map f (drop i xs)) s) ≡ Ends end t
+all_stops f xs i x done end s t next ends =
+    ap (λ rest. behind done (all_of (map f rest) s)) next
+    ∙ ap (λ outcome. behind done (and_then outcome (λ value. λ after. and_then (all_of (map f (drop (i + 1) xs)) after) (λ values. give (value ∷ values))))) ends
+
+pub all_done : {X B : Type 0} (f : X → Doing B) (xs : List X) (i : ℕ) (done : List B) (s : Store)
+    → drop i xs ≡ [] → behind done (all_of (map f (drop i xs)) s) ≡ Goes done s
+all_done f xs i done s none =
+    ap (λ rest. behind done (all_of (map f rest) s)) none ∙ ap (λ all. Goes all s) (append-nil done)
+
+pub behind_none : {B : Type 0} (outcome : Outcome (List B)) → behind [] outcome ≡ outcome
+behind_none (Goes more store) = refl
+behind_none (Returns words store) = refl
+behind_none (Ends end store) = refl
+
+-- what was found comes behind what is there
+pub mapped_step : {X R B : Type 0} (f : X → Doing B) (g : R → B) (xs : List X) (i : ℕ) (x : X) (done more : List R) (r : R) (s : Store)
+    → drop i xs ≡ x ∷ drop (i + 1) xs → f x s ≡ Goes (g r) s → more ≡ done ++ r ∷ []
+    → behind (map g done) (all_of (map f (drop i xs)) s) ≡ behind (map g more) (all_of (map f (drop (i + 1) xs)) s)
+mapped_step f g xs i x done more r s next gives pushed =
+    all_step f xs i x (map g done) (g r) s next gives
+    ∙ ap (λ all. behind all (all_of (map f (drop (i + 1) xs)) s)) (sym (map-append g done (r ∷ [])) ∙ ap (map g) (sym pushed))

@@ -1,2 +1,6 @@
 pub mod Evaluated
+pub mod FirstForm
+pub mod Found
+pub mod Held
 pub mod Runs
+pub mod WholeName

@@ -1,24 +1,56 @@
 -- What has become of steps of a body.
-use Rattle.std.specs.Prelude.{◌≡◌, ℕ, List, map, ℤ, Result, Ok, Err}
-use Rattle.mpl_mean.specs.Context.{Context}
-use Rattle.mpl_mean.specs.StatementMeaning.{Does}
-use Rattle.mpl_mean.specs.Values.{Value, int_value}
-use Rattle.mpl_mean.specs.Store.{Store, Goes, Ends, Doing}
+use Rattle.std.specs.Prelude.{◌≡◌, ◌≢◌, ◌<◌, ◌+◌, ℕ, List, [], ℤ, Option, None, Result, Ok, Err}
+use Rattle.mpl_ast.specs.declared.expression.Expression.{Expression}
+use Rattle.mpl_ast.specs.declared.program.Declaration.{Declaration}
+use Rattle.mpl_ast.specs.declared.statement.TypeName.{TypeName}
+use Rattle.mpl_value.specs.declared.body.Arg.{Arg}
 use Rattle.mpl_value.specs.declared.body.BodyEnd.TheVariants as end
+use Rattle.mpl_mean.specs.BodyMeaning.{regular_body}
+use Rattle.mpl_mean.specs.Context.{Context}
+use Rattle.mpl_mean.specs.Layout.{Member}
+use Rattle.mpl_mean.specs.Store.{Store, Variable, Outcome, Goes, Ends, Doing, ◌>>=◌, declare, printed}
+use Rattle.mpl_mean.specs.StatementMeaning.{Effect, line_of, values_of}
+use Rattle.mpl_walk.specs.Held.{variables_held}
+use Rattle.mpl_walk.specs.declared.setting.Progress.{Progress}
 use Rattle.mpl_walk.specs.declared.stop.Stop.{Stop}
 use Rattle.mpl_walk.specs.declared.stop.Stop.TheVariants as stop
 
--- these numbers are what it gives, or it traps; nothing is said where no memory was left
-abbrev pub GivesAll : (Context → Doing (List Value)) → Result (List ℤ) Stop → Type 0
-GivesAll doing (Ok words) = (context : Context) (s : Store) → doing context s ≡ Goes (map int_value words) s
-GivesAll doing (Err (stop.Trap trap)) = (context : Context) (s : Store) → doing context s ≡ Ends (end.Trap trap) s
-GivesAll doing (Err stop.NoMemory) = Unit {0}
+abbrev pub with_turns : Store → ℕ → Store
+with_turns s turns = record s { turns = turns }
 
-abbrev pub with_lines : Store → List ℕ → Store
-with_lines s lines = record s { lines = lines }
+-- the store of a body that has come so far
+abbrev pub store_at : Store → Progress → Store
+store_at s p = record s { variables = variables_held p.variables.items; lines = p.lines; turns = p.turns }
 
--- with these lines printed before, it ends with those, or traps with them; nothing is said where no memory was left
-abbrev pub Runs : Does → List ℕ → List ℕ → Result (Unit {0}) Stop → Type 0
-Runs does before after (Ok _) = (context : Context) (s : Store) → does context (with_lines s before) ≡ Goes tt (with_lines s after)
-Runs does before after (Err (stop.Trap trap)) = (context : Context) (s : Store) → does context (with_lines s before) ≡ Ends (end.Trap trap) (with_lines s after)
-Runs does before after (Err stop.NoMemory) = Unit {0}
+-- how a body stops. Without memory nothing is said of it
+abbrev pub stopped : {A : Type 0} → ℕ → Stop → Store → Outcome A
+stopped budget (stop.Trap trap) s = Ends (end.Trap trap) s
+stopped budget stop.Waits s = Ends end.Waits s
+stopped budget stop.Spent s = Ends end.Spent (with_turns s (budget + 1))
+stopped budget stop.NoMemory s = Ends end.Waits s
+
+-- a step goes on with what is found, or stops
+abbrev pub Comes : {A B : Type 0} → ℕ → (A → B) → Outcome B → Store → Result A Stop → Type 0
+Comes budget value outcome s (Ok found) = outcome ≡ Goes (value found) s
+Comes budget value outcome s (Err why) = why ≢ stop.NoMemory → outcome ≡ stopped budget why s
+
+-- a context of these declarations and so many turns, in which members run in place
+pub record Fits (ds : List Declaration) (budget : ℕ) (c : Context) : Type 0 where
+  pub declarations : c.declarations ≡ ds
+  pub turns : c.turns ≡ budget
+  pub stateless : c.state ≡ []
+  pub inner : Context
+  pub inner_turns : inner.turns ≡ budget
+  pub inner_stateless : inner.state ≡ []
+  pub regular : 0 < budget → (m : Member) (words : List (List ℤ)) → c.below.regular m words ≡ regular_body inner m words
+
+-- ---- statements
+
+abbrev pub prints : Context → List Expression → Effect
+prints c arguments = values_of c arguments >>= (λ values. printed (line_of values))
+
+abbrev pub local_of : TypeName → List ℕ → Arg → Variable
+local_of type name holds = record { name = name; type = type; dimension = None; holds = holds }
+
+abbrev pub declares_result : TypeName → List ℕ → Doing Arg → Effect
+declares_result type name gives = gives >>= (λ holds. declare (local_of type name holds))

@@ -1,80 +1,90 @@
-ghost use Rattle.std.specs.Prelude.{◌≡◌, true, map};
+ghost use Rattle.std.specs.Prelude.{◌≡◌, ℕ, true, map};
 ghost use Rattle.std.specs.List.{list_all};
-ghost use Rattle.mpl_mean.specs.Built.{is_built_expression};
+ghost use Rattle.mpl_walk.specs.FirstForm.{is_first_expression};
+ghost use Rattle.mpl_mean.specs.Context.{Context};
 ghost use Rattle.mpl_mean.specs.ExpressionMeaning.{value_of};
-ghost use Rattle.mpl_mean.specs.Store.{all_of};
-ghost use Rattle.mpl_walk.specs.Evaluated.{always, conjunction_value, equality_value, relation_value, sum_value, term_value, unary_value, primary_value, on_line, is_built_conjunction, is_built_equality, is_built_relation, is_built_sum, is_built_term, is_built_unary, is_built_primary};
-ghost use Rattle.mpl_walk.specs.Runs.{GivesAll};
+ghost use Rattle.mpl_mean.specs.PlaceMeaning.{spot_of_name, words_of_spot};
+ghost use Rattle.mpl_mean.specs.StatementMeaning.{values_of};
+ghost use Rattle.mpl_mean.specs.Store.{Store, variable_named};
+ghost use Rattle.mpl_walk.specs.Evaluated.{evaluated, conjunction_value, equality_value, relation_value, sum_value, term_value, unary_value, primary_value, place_value, on_line, is_first_conjunction, is_first_equality, is_first_relation, is_first_sum, is_first_term, is_first_unary, is_first_primary, is_first_place};
+ghost use Rattle.mpl_walk.specs.Held.{Stands, value_held};
+ghost use Rattle.mpl_walk.specs.Runs.{Comes};
 
+use crate::held::{Variable, find, force, number};
 use crate::stop::Stop;
 use mpl_ast::expression::{
-    Conjunction, Equality, Expression, Primary, Relation, Sum, SumOperator, Term, TermOperator,
-    Unary,
+    Conjunction, Equality, Expression, Place, Primary, Relation, Sum, SumOperator, Target, Term,
+    TermOperator, Unary,
 };
-use mpl_value::{Trap, TrapKind, Words, add, mul, sub};
+use mpl_value::{Listed, Trap, TrapKind, add, mul, sub};
 use std::alloc::Global;
 
 /// The values of expressions, from left to right up to the first trap.
-pub fn values(alloc: Global, expressions: &[Expression]) -> Result<Words, Stop>
-    requires { list_all is_built_expression expressions.now ≡ true }
-    ensures { GivesAll (λ context. all_of (map (λ e. value_of e context) expressions.now)) result }
+pub fn values(
+    alloc: Global,
+    variables: &[Variable],
+    expressions: &[Expression],
+) -> Result<Listed<Option<i64>>, Stop>
+    requires { list_all is_first_expression expressions.now ≡ true }
+    ensures { (budget : ℕ) (c : Context) (s : Store) → Stands variables.now c s → Comes budget (map value_held) (values_of c expressions.now s) s result }
 {
-    let mut words = Words::new(alloc);
+    let mut words = Listed::new(alloc);
     for expression in expressions {
-        words.push(expression_value(expression)?)?;
+        let word = expression_value(variables, expression)?;
+        words.push(word)?;
     }
     Ok(words)
 }
 
-fn expression_value(node: &Expression) -> Result<i64, Trap>
-    requires { is_built_expression node.now ≡ true }
-    ensures { value_of node.now ≡ always result }
+pub fn expression_value(variables: &[Variable], node: &Expression) -> Result<Option<i64>, Trap>
+    requires { is_first_expression node.now ≡ true }
+    ensures { (c : Context) (s : Store) → Stands variables.now c s → value_of node.now c s ≡ evaluated result s }
 {
     match node {
-        Expression::OneConjunction(_, inner) => conjunction_value(inner),
+        Expression::OneConjunction(_, inner) => conjunction_value(variables, inner),
         Expression::Or(..) => unreachable!(),
     }
 }
 
-fn conjunction_value(node: &Conjunction) -> Result<i64, Trap>
-    requires { is_built_conjunction node.now ≡ true }
-    ensures { conjunction_value node.now ≡ always result }
+fn conjunction_value(variables: &[Variable], node: &Conjunction) -> Result<Option<i64>, Trap>
+    requires { is_first_conjunction node.now ≡ true }
+    ensures { (c : Context) (s : Store) → Stands variables.now c s → conjunction_value node.now c s ≡ evaluated result s }
 {
     match node {
-        Conjunction::OneEquality(_, inner) => equality_value(inner),
+        Conjunction::OneEquality(_, inner) => equality_value(variables, inner),
         Conjunction::And(..) => unreachable!(),
     }
 }
 
-fn equality_value(node: &Equality) -> Result<i64, Trap>
-    requires { is_built_equality node.now ≡ true }
-    ensures { equality_value node.now ≡ always result }
+fn equality_value(variables: &[Variable], node: &Equality) -> Result<Option<i64>, Trap>
+    requires { is_first_equality node.now ≡ true }
+    ensures { (c : Context) (s : Store) → Stands variables.now c s → equality_value node.now c s ≡ evaluated result s }
 {
     match node {
-        Equality::OneRelation(_, inner) => relation_value(inner),
+        Equality::OneRelation(_, inner) => relation_value(variables, inner),
         Equality::Equate(..) => unreachable!(),
     }
 }
 
-fn relation_value(node: &Relation) -> Result<i64, Trap>
-    requires { is_built_relation node.now ≡ true }
-    ensures { relation_value node.now ≡ always result }
+fn relation_value(variables: &[Variable], node: &Relation) -> Result<Option<i64>, Trap>
+    requires { is_first_relation node.now ≡ true }
+    ensures { (c : Context) (s : Store) → Stands variables.now c s → relation_value node.now c s ≡ evaluated result s }
 {
     match node {
-        Relation::OneSum(_, inner) => sum_value(inner),
+        Relation::OneSum(_, inner) => sum_value(variables, inner),
         Relation::Compare(..) => unreachable!(),
     }
 }
 
-fn sum_value(node: &Sum) -> Result<i64, Trap>
-    requires { is_built_sum node.now ≡ true }
-    ensures { sum_value node.now ≡ always result }
+fn sum_value(variables: &[Variable], node: &Sum) -> Result<Option<i64>, Trap>
+    requires { is_first_sum node.now ≡ true }
+    ensures { (c : Context) (s : Store) → Stands variables.now c s → sum_value node.now c s ≡ evaluated result s }
 {
     match node {
-        Sum::OneTerm(_, inner) => term_value(inner),
+        Sum::OneTerm(_, inner) => term_value(variables, inner),
         Sum::Add(_, line, left, operator, right) => {
-            let a = sum_value(left.get())?;
-            let b = term_value(right)?;
+            let a = number(sum_value(variables, left.get())?);
+            let b = number(term_value(variables, right)?);
             let outcome = match operator {
                 SumOperator::Plus => add(a, b),
                 SumOperator::Minus => sub(a, b),
@@ -84,15 +94,15 @@ fn sum_value(node: &Sum) -> Result<i64, Trap>
     }
 }
 
-fn term_value(node: &Term) -> Result<i64, Trap>
-    requires { is_built_term node.now ≡ true }
-    ensures { term_value node.now ≡ always result }
+fn term_value(variables: &[Variable], node: &Term) -> Result<Option<i64>, Trap>
+    requires { is_first_term node.now ≡ true }
+    ensures { (c : Context) (s : Store) → Stands variables.now c s → term_value node.now c s ≡ evaluated result s }
 {
     match node {
-        Term::OneUnary(_, inner) => unary_value(inner),
+        Term::OneUnary(_, inner) => unary_value(variables, inner),
         Term::Multiply(_, line, left, operator, right) => {
-            let a = term_value(left.get())?;
-            let b = unary_value(right)?;
+            let a = number(term_value(variables, left.get())?);
+            let b = number(unary_value(variables, right)?);
             match operator {
                 TermOperator::Times => on_line(*line, mul(a, b)),
                 TermOperator::Over | TermOperator::Modulo => unreachable!(),
@@ -101,35 +111,58 @@ fn term_value(node: &Term) -> Result<i64, Trap>
     }
 }
 
-fn unary_value(node: &Unary) -> Result<i64, Trap>
-    requires { is_built_unary node.now ≡ true }
-    ensures { unary_value node.now ≡ always result }
+fn unary_value(variables: &[Variable], node: &Unary) -> Result<Option<i64>, Trap>
+    requires { is_first_unary node.now ≡ true }
+    ensures { (c : Context) (s : Store) → Stands variables.now c s → unary_value node.now c s ≡ evaluated result s }
 {
     match node {
-        Unary::OnePrimary(_, inner) => primary_value(inner),
+        Unary::OnePrimary(_, inner) => primary_value(variables, inner),
         Unary::Apply(..) => unreachable!(),
     }
 }
 
-fn primary_value(node: &Primary) -> Result<i64, Trap>
-    requires { is_built_primary node.now ≡ true }
-    ensures { primary_value node.now ≡ always result }
+fn primary_value(variables: &[Variable], node: &Primary) -> Result<Option<i64>, Trap>
+    requires { is_first_primary node.now ≡ true }
+    ensures { (c : Context) (s : Store) → Stands variables.now c s → primary_value node.now c s ≡ evaluated result s }
 {
     match node {
-        Primary::Number(_, number) => Ok(*number),
+        Primary::Number(_, number) => Ok(Some(*number)),
+        Primary::Read(_, place) => place_value(variables, place.get()),
         Primary::True(..)
         | Primary::False(..)
         | Primary::Own(..)
-        | Primary::Read(..)
         | Primary::Input(..)
         | Primary::CallPlain(..)
         | Primary::Parenthesized(..) => unreachable!(),
     }
 }
 
+fn place_value(variables: &[Variable], node: &Place) -> Result<Option<i64>, Trap>
+    requires { is_first_place node.now ≡ true }
+    ensures { (c : Context) (s : Store) → Stands variables.now c s → place_value node.now c s ≡ evaluated result s }
+{
+    match node {
+        Place::Whole(_, Target::Variable(_, name)) => read(variables, name.text.as_slice()),
+        Place::Whole(_, Target::Field(..)) | Place::Element(..) => unreachable!(),
+    }
+}
+
+/// The word of a variable. What names no variable has none.
+fn read(variables: &[Variable], name: &[u8]) -> Result<Option<i64>, Trap>
+    ensures { (c : Context) (s : Store) → Stands variables.now c s → words_of_spot (spot_of_name c (variable_named name.now s.variables) name.now) s ≡ evaluated result s }
+{
+    match find(variables, name) {
+        Some(variable) => force(variable.holds),
+        None => Ok(None),
+    }
+}
+
 /// An outcome, whose trap comes about on this line.
-fn on_line(line: u32, outcome: Result<i64, TrapKind>) -> Result<i64, Trap>
+fn on_line(line: u32, outcome: Result<i64, TrapKind>) -> Result<Option<i64>, Trap>
     ensures { result ≡ on_line line outcome }
 {
-    outcome.map_err(|kind| Trap { kind, line })
+    match outcome {
+        Ok(number) => Ok(Some(number)),
+        Err(kind) => Err(Trap { kind, line }),
+    }
 }

@@ -1,16 +1,20 @@
-use Rattle.std.proofs.Common.{◌≡◌, true, map, drop}
+use Rattle.std.proofs.Common.{◌≡◌, ◌≤◌, true, map, drop}
 use Rattle.std.specs.List.{list_all}
-use Rattle.mpl_mean.specs.Built.{is_built_statement}
+use Rattle.mpl_walk.specs.FirstForm.{is_first_statement}
 use Rattle.mpl_mean.specs.Context.{Context}
 use Rattle.mpl_mean.specs.StatementMeaning.{does}
 use Rattle.mpl_mean.specs.Store.{Store, in_turn}
-use Rattle.mpl_walk.specs.Runs.{with_lines}
+use Rattle.mpl_walk.specs.Held.{Whole}
+use Rattle.mpl_walk.specs.Runs.{Fits, store_at}
 use Rattle.mpl_walk.proofs.body.run_all.Given as goal
 
 abbrev pub invariant-loop-statement : goal.invariant-loop-statement
 invariant-loop-statement l = record {
-  -- what is left is built, and from here it comes to what all come to from the start
-  built : list_all is_built_statement (drop l.statement-index l.statements) ≡ true;
-  left : (context : Context) (s : Store) → in_turn (map (λ t. does t context) (drop l.statement-index l.statements)) (with_lines s l.lines)
-      ≡ in_turn (map (λ t. does t context) l.statements) (with_lines s l.fn.lines);
+  built : list_all is_first_statement (drop l.statement-index l.statements) ≡ true;
+  within : l.progress.turns ≤ l.setting.budget;
+  whole : Whole l.setting.declarations.now l.progress.variables.items;
+  -- from here it comes to what all come to from the start
+  left : (c : Context) (s : Store) → Fits l.setting.declarations.now l.setting.budget c
+      → in_turn (map (λ one. does one c) (drop l.statement-index l.statements)) (store_at s l.progress)
+      ≡ in_turn (map (λ one. does one c) l.statements) (store_at s l.fn.progress);
 }

@@ -1,0 +1,11 @@
+use Rattle.std.proofs.Common.{ap, ◌∙◌}
+use Rattle.mpl_mean.specs.Context.{Context}
+use Rattle.mpl_mean.specs.ExpressionMeaning.{Evaluates}
+use Rattle.mpl_walk.specs.Evaluated.{conjunction_value}
+use Rattle.mpl_walk.proofs.Parts.{one_equality}
+use Rattle.mpl_walk.proofs.evaluate.conjunction_value.Goals as goal
+
+pub returns : goal.returns
+returns c = λ context s stands.
+    ap (λ node. conjunction_value node context s) c.in-OneEquality.is
+    ∙ ap (λ (evaluates : Evaluates). evaluates context s) (one_equality c.in-OneEquality.field-0 c.in-OneEquality.inner) ∙ c.equality_value.ensures context s stands

@@ -1,0 +1,12 @@
+use Rattle.std.proofs.Common.{◌≡◌, true, drop}
+use Rattle.std.specs.Prelude.{codes}
+use Rattle.mpl_walk.specs.FirstForm.{are_first}
+use Rattle.mpl_mean.specs.BodyMeaning.{main_statements}
+use Rattle.mpl_walk.proofs.lookup.main_statements.Given as goal
+
+abbrev pub invariant-loop-declaration : goal.invariant-loop-declaration
+invariant-loop-declaration l = record {
+  built : are_first (drop l.declaration-index l.declaration-items) ≡ true;
+  -- `main` isn't among those before
+  main : main_statements l.declaration-items ≡ main_statements (drop l.declaration-index l.declaration-items);
+}
