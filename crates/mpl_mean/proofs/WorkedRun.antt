@@ -28,7 +28,7 @@ use Rattle.mpl_value.specs.declared.body.BodyEnd.TheVariants.{Done}
 use Rattle.mpl_value.specs.declared.body.BodyResult.TheVariants.{Open}
 use Rattle.mpl_value.specs.declared.body.Yield.{Yield}
 use Rattle.mpl_value.specs.Arithmetic.{sum}
-use Rattle.mpl_mean.specs.Built.{is_built}
+use Rattle.mpl_mean.specs.FirstForm.{is_first_form}
 use Rattle.mpl_mean.specs.DirectRun.{direct_run}
 use Rattle.mpl_mean.specs.Lexemes.{tokens_of}
 use Rattle.mpl_mean.specs.BodyMeaning.{below_at, context_with, main_yield, store_with}
@@ -104,7 +104,7 @@ spelled_with reads = nothing_left (node (at 0 28 0) (each (node (at 0 28 1) (nod
 spells_them : spells program tokens ≡ true
 spells_them = ap (λ (s : StatementText). spelled_with s.text) statement_reads
 
-is_among_them : is_built program ≡ true
+is_among_them : is_first_form program ≡ true
 is_among_them = simp layers
 
 -- ---- what its tokens weigh

@@ -5,7 +5,7 @@ pub mod ExpressionText
 pub mod StatementText
 pub mod ProgramText
 pub mod Weight
-pub mod Built
+pub mod FirstForm
 pub mod Layout
 pub mod Store
 pub mod Context

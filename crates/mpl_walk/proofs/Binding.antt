@@ -7,7 +7,7 @@ use Rattle.mpl_ast.specs.declared.statement.TypeName.{TypeName}
 use Rattle.mpl_ast.specs.declared.statement.TypeName.TheVariants as type
 use Rattle.mpl_value.specs.declared.body.Arg.TheVariants as arg
 use Rattle.mpl_mean.specs.BodyMeaning.{formals_holding}
-use Rattle.mpl_walk.specs.FirstForm.{is_int}
+use Rattle.mpl_mean.specs.FirstForm.{is_int}
 use Rattle.mpl_mean.specs.CallMeaning.{known_words, leftmost_trap}
 use Rattle.mpl_mean.specs.Layout.{words_of}
 use Rattle.mpl_mean.specs.PlaceMeaning.{is_bool}

@@ -18,8 +18,8 @@ use Rattle.mpl_value.specs.declared.known.Known.{Known}
 use Rattle.mpl_value.specs.declared.known.Known.TheVariants as known
 use Rattle.mpl_value.specs.declared.known.Trap.{Trap}
 use Rattle.mpl_mean.specs.BodyMeaning.{back_with, formals_holding, member_end, regular_body, result_at_end, store_of, store_with}
-use Rattle.mpl_walk.specs.FirstForm as first
-use Rattle.mpl_walk.specs.FirstForm.{is_one_result}
+use Rattle.mpl_mean.specs.FirstForm as first
+use Rattle.mpl_mean.specs.FirstForm.{is_one_result}
 use Rattle.mpl_mean.specs.CallMeaning.{answer, any_unknown, call_of_member, call_on, class_of_spot, known_words, leftmost_trap, passes, regular_call, unless_trapped}
 use Rattle.mpl_mean.specs.Context.{Context}
 use Rattle.mpl_mean.specs.Layout.{Class, Member, Part, class_named, class_of_type, classes_of, member_named, members_from, part_named}

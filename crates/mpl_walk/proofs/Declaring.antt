@@ -12,7 +12,7 @@ use Rattle.mpl_ast.specs.declared.statement.Declarator.{Declarator}
 use Rattle.mpl_ast.specs.declared.statement.Declarator.TheVariants.{Plain}
 use Rattle.mpl_ast.specs.declared.statement.Dimension.{Dimension}
 use Rattle.mpl_ast.specs.declared.statement.TypeName.{TypeName}
-use Rattle.mpl_walk.specs.FirstForm.{is_first_declarator, is_first_local}
+use Rattle.mpl_mean.specs.FirstForm.{is_first_declarator, is_first_local}
 use Rattle.mpl_mean.specs.Layout.{class_named, classes_of, struct_named, words_of, words_of_class, words_of_named}
 use Rattle.mpl_walk.specs.Found.{is_part, IsClassOf}
 

@@ -15,8 +15,8 @@ use Rattle.mpl_ast.specs.declared.program.Declaration.{Declaration}
 use Rattle.mpl_ast.specs.declared.program.Declaration.TheVariants as declaration
 use Rattle.mpl_ast.specs.declared.statement.Block.{Block}
 use Rattle.mpl_ast.specs.declared.statement.TypeName.{TypeName}
-use Rattle.mpl_walk.specs.FirstForm as first
-use Rattle.mpl_walk.specs.FirstForm.{are_ints, is_first_item, is_int_result, is_one_result}
+use Rattle.mpl_mean.specs.FirstForm as first
+use Rattle.mpl_mean.specs.FirstForm.{are_ints, is_first_item, is_int_result, is_one_result}
 use Rattle.mpl_mean.specs.Layout as mean
 use Rattle.mpl_mean.specs.Layout.{Class, class_named, classes_from, formals_of, is_regular, member_named, members_from, state_of}
 use Rattle.mpl_walk.specs.declared.lookup.Member.{Member}

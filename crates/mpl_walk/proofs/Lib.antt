@@ -1,5 +1,3 @@
-mod Follows
-mod Plain
 pub mod Binding
 pub mod Calling
 pub mod Coming

@@ -16,7 +16,7 @@ use Rattle.mpl_ast.specs.declared.statement.Block.{Block}
 use Rattle.mpl_ast.specs.declared.statement.Statement.{Statement}
 use Rattle.mpl_ast.specs.declared.statement.TypeName.{TypeName}
 use Rattle.mpl_mean.specs.BodyMeaning.{main_statements, statements_of}
-use Rattle.mpl_walk.specs.FirstForm.{are_first, is_first_statement, is_class, is_int, is_main, is_without_formals}
+use Rattle.mpl_mean.specs.FirstForm.{are_first, is_first_statement, is_class, is_int, is_main, is_without_formals}
 use Rattle.mpl_mean.specs.Layout.{Function, formals_of, function_named}
 use Rattle.mpl_walk.specs.Found.{is_part}
 

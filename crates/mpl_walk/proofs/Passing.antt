@@ -12,7 +12,7 @@ use Rattle.mpl_ast.specs.declared.place.At.{At}
 use Rattle.mpl_ast.specs.declared.place.Name.{Name}
 use Rattle.mpl_value.specs.declared.body.Arg.{Arg}
 use Rattle.mpl_value.specs.declared.known.Trap.{Trap}
-use Rattle.mpl_walk.specs.FirstForm.{is_first_call, is_first_flow, is_variable}
+use Rattle.mpl_mean.specs.FirstForm.{is_first_call, is_first_flow, is_variable}
 use Rattle.mpl_mean.specs.CallMeaning.{Passes, at_context, call_on_target, call_value, held_or, pass, passes, whole_name, whole_variable}
 use Rattle.mpl_mean.specs.Context.{Context}
 use Rattle.mpl_mean.specs.ExpressionMeaning.{value_of}

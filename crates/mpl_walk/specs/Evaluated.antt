@@ -1,5 +1,5 @@
 -- The values of the levels below an expression, and what an evaluation has come to.
-use Rattle.std.specs.Prelude.{ℕ, Bool, Option, Some, ℤ, Result, Ok, Err}
+use Rattle.std.specs.Prelude.{ℕ, Option, Some, ℤ, Result, Ok, Err}
 use Rattle.mpl_ast.specs.declared.expression.Conjunction.{Conjunction, fold-Conjunction}
 use Rattle.mpl_ast.specs.declared.expression.Equality.{Equality, fold-Equality}
 use Rattle.mpl_ast.specs.declared.expression.Place.{Place, fold-Place}
@@ -8,7 +8,6 @@ use Rattle.mpl_ast.specs.declared.expression.Relation.{Relation, fold-Relation}
 use Rattle.mpl_ast.specs.declared.expression.Sum.{Sum, fold-Sum}
 use Rattle.mpl_ast.specs.declared.expression.Term.{Term, fold-Term}
 use Rattle.mpl_ast.specs.declared.expression.Unary.{Unary, fold-Unary}
-use Rattle.mpl_walk.specs.FirstForm as first
 use Rattle.mpl_mean.specs.ExpressionMeaning as mean
 use Rattle.mpl_mean.specs.ExpressionMeaning.{Evaluates}
 use Rattle.mpl_mean.specs.Store.{Doing, give, stop}
@@ -45,62 +44,30 @@ abbrev pub conjunction_value : Conjunction → Evaluates
 conjunction_value = fold-Conjunction Evaluates Evaluates Evaluates Evaluates Evaluates Evaluates Evaluates Evaluates Evaluates
     mean.conjunction_step mean.equality_step mean.expression_step mean.place_step mean.primary_step mean.relation_step mean.sum_step mean.term_step mean.unary_step
 
-abbrev pub is_first_conjunction : Conjunction → Bool
-is_first_conjunction = fold-Conjunction Bool Bool Bool Bool Bool Bool Bool Bool Bool
-    first.conjunction_step first.equality_step first.expression_step first.place_step first.primary_step first.relation_step first.sum_step first.term_step first.unary_step
-
 abbrev pub equality_value : Equality → Evaluates
 equality_value = fold-Equality Evaluates Evaluates Evaluates Evaluates Evaluates Evaluates Evaluates Evaluates Evaluates
     mean.conjunction_step mean.equality_step mean.expression_step mean.place_step mean.primary_step mean.relation_step mean.sum_step mean.term_step mean.unary_step
-
-abbrev pub is_first_equality : Equality → Bool
-is_first_equality = fold-Equality Bool Bool Bool Bool Bool Bool Bool Bool Bool
-    first.conjunction_step first.equality_step first.expression_step first.place_step first.primary_step first.relation_step first.sum_step first.term_step first.unary_step
 
 abbrev pub relation_value : Relation → Evaluates
 relation_value = fold-Relation Evaluates Evaluates Evaluates Evaluates Evaluates Evaluates Evaluates Evaluates Evaluates
     mean.conjunction_step mean.equality_step mean.expression_step mean.place_step mean.primary_step mean.relation_step mean.sum_step mean.term_step mean.unary_step
 
-abbrev pub is_first_relation : Relation → Bool
-is_first_relation = fold-Relation Bool Bool Bool Bool Bool Bool Bool Bool Bool
-    first.conjunction_step first.equality_step first.expression_step first.place_step first.primary_step first.relation_step first.sum_step first.term_step first.unary_step
-
 abbrev pub sum_value : Sum → Evaluates
 sum_value = fold-Sum Evaluates Evaluates Evaluates Evaluates Evaluates Evaluates Evaluates Evaluates Evaluates
     mean.conjunction_step mean.equality_step mean.expression_step mean.place_step mean.primary_step mean.relation_step mean.sum_step mean.term_step mean.unary_step
-
-abbrev pub is_first_sum : Sum → Bool
-is_first_sum = fold-Sum Bool Bool Bool Bool Bool Bool Bool Bool Bool
-    first.conjunction_step first.equality_step first.expression_step first.place_step first.primary_step first.relation_step first.sum_step first.term_step first.unary_step
 
 abbrev pub term_value : Term → Evaluates
 term_value = fold-Term Evaluates Evaluates Evaluates Evaluates Evaluates Evaluates Evaluates Evaluates Evaluates
     mean.conjunction_step mean.equality_step mean.expression_step mean.place_step mean.primary_step mean.relation_step mean.sum_step mean.term_step mean.unary_step
 
-abbrev pub is_first_term : Term → Bool
-is_first_term = fold-Term Bool Bool Bool Bool Bool Bool Bool Bool Bool
-    first.conjunction_step first.equality_step first.expression_step first.place_step first.primary_step first.relation_step first.sum_step first.term_step first.unary_step
-
 abbrev pub unary_value : Unary → Evaluates
 unary_value = fold-Unary Evaluates Evaluates Evaluates Evaluates Evaluates Evaluates Evaluates Evaluates Evaluates
     mean.conjunction_step mean.equality_step mean.expression_step mean.place_step mean.primary_step mean.relation_step mean.sum_step mean.term_step mean.unary_step
-
-abbrev pub is_first_unary : Unary → Bool
-is_first_unary = fold-Unary Bool Bool Bool Bool Bool Bool Bool Bool Bool
-    first.conjunction_step first.equality_step first.expression_step first.place_step first.primary_step first.relation_step first.sum_step first.term_step first.unary_step
 
 abbrev pub primary_value : Primary → Evaluates
 primary_value = fold-Primary Evaluates Evaluates Evaluates Evaluates Evaluates Evaluates Evaluates Evaluates Evaluates
     mean.conjunction_step mean.equality_step mean.expression_step mean.place_step mean.primary_step mean.relation_step mean.sum_step mean.term_step mean.unary_step
 
-abbrev pub is_first_primary : Primary → Bool
-is_first_primary = fold-Primary Bool Bool Bool Bool Bool Bool Bool Bool Bool
-    first.conjunction_step first.equality_step first.expression_step first.place_step first.primary_step first.relation_step first.sum_step first.term_step first.unary_step
-
 abbrev pub place_value : Place → Evaluates
 place_value = fold-Place Evaluates Evaluates Evaluates Evaluates Evaluates Evaluates Evaluates Evaluates Evaluates
     mean.conjunction_step mean.equality_step mean.expression_step mean.place_step mean.primary_step mean.relation_step mean.sum_step mean.term_step mean.unary_step
-
-abbrev pub is_first_place : Place → Bool
-is_first_place = fold-Place Bool Bool Bool Bool Bool Bool Bool Bool Bool
-    first.conjunction_step first.equality_step first.expression_step first.place_step first.primary_step first.relation_step first.sum_step first.term_step first.unary_step

@@ -1,5 +1,4 @@
 pub mod Evaluated
-pub mod FirstForm
 pub mod Found
 pub mod Held
 pub mod Runs

@@ -1,6 +1,6 @@
 ghost use Rattle.std.specs.Prelude.{◌≡◌, ◌≤◌, ◌<◌, true, None, map, IfOk, OnOk};
 ghost use Rattle.std.specs.List.{list_all};
-ghost use Rattle.mpl_walk.specs.FirstForm.{is_first_form, is_first_declarator, is_first_expression, is_first_local, is_first_statement, is_call, is_int, is_named};
+ghost use Rattle.mpl_mean.specs.FirstForm.{is_first_form, is_first_declarator, is_first_expression, is_first_local, is_first_statement, is_call, is_int, is_named};
 ghost use Rattle.mpl_mean.specs.CallMeaning.{passes};
 ghost use Rattle.mpl_mean.specs.Layout.{words_of};
 ghost use Rattle.mpl_mean.specs.PlaceMeaning.{is_bool};

@@ -2,7 +2,7 @@ ghost use Rattle.std.specs.Prelude.{◌≡◌, ◌≤◌, ◌<◌, ◌∷◌, []
 ghost use Rattle.std.specs.List.{list_all};
 ghost use Rattle.mpl_ast.specs.declared.place.At.{At};
 ghost use Rattle.mpl_ast.specs.declared.statement.Statement.{Rtf};
-ghost use Rattle.mpl_walk.specs.FirstForm.{gives_result, is_first_call, is_first_flow, is_one_result};
+ghost use Rattle.mpl_mean.specs.FirstForm.{gives_result, is_first_call, is_first_flow, is_one_result};
 ghost use Rattle.mpl_mean.specs.BodyMeaning.{formals_holding};
 ghost use Rattle.mpl_mean.specs.CallMeaning.{call_on, call_value, class_of_spot, known_words, leftmost_trap, passes, regular_call};
 ghost use Rattle.mpl_mean.specs.Context.{Context};

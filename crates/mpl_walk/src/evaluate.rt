@@ -1,12 +1,12 @@
 ghost use Rattle.std.specs.Prelude.{◌≡◌, ℕ, true, map};
 ghost use Rattle.std.specs.List.{list_all};
-ghost use Rattle.mpl_walk.specs.FirstForm.{is_first_expression};
+ghost use Rattle.mpl_mean.specs.FirstForm.{is_first_expression, is_first_conjunction, is_first_equality, is_first_relation, is_first_sum, is_first_term, is_first_unary, is_first_primary, is_first_place};
 ghost use Rattle.mpl_mean.specs.Context.{Context};
 ghost use Rattle.mpl_mean.specs.ExpressionMeaning.{value_of};
 ghost use Rattle.mpl_mean.specs.PlaceMeaning.{spot_of_name, words_of_spot};
 ghost use Rattle.mpl_mean.specs.StatementMeaning.{values_of};
 ghost use Rattle.mpl_mean.specs.Store.{Store, variable_named};
-ghost use Rattle.mpl_walk.specs.Evaluated.{evaluated, conjunction_value, equality_value, relation_value, sum_value, term_value, unary_value, primary_value, place_value, on_line, is_first_conjunction, is_first_equality, is_first_relation, is_first_sum, is_first_term, is_first_unary, is_first_primary, is_first_place};
+ghost use Rattle.mpl_walk.specs.Evaluated.{evaluated, conjunction_value, equality_value, relation_value, sum_value, term_value, unary_value, primary_value, place_value, on_line};
 ghost use Rattle.mpl_walk.specs.Held.{Stands, value_held};
 ghost use Rattle.mpl_walk.specs.Runs.{Comes};
 

@@ -5,7 +5,6 @@ mod body;
 mod call;
 mod evaluate;
 mod held;
-mod laws;
 mod lookup;
 mod name;
 mod pass;
@@ -16,4 +15,3 @@ mod stop;
 mod tests;
 
 pub use body::walk;
-pub use laws::{built_comes_to_its_end, built_is_of_the_first_form};

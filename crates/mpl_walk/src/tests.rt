@@ -1,7 +1,6 @@
 ghost use Rattle.std.specs.Prelude.{◌≡◌, ◌≤◌, true, None, IfOk};
 ghost use Rattle.std.specs.List.{list_all};
-ghost use Rattle.mpl_walk.specs.FirstForm.{is_first_form, is_first_expression, is_first_item, is_first_statement, is_class, is_main};
-ghost use Rattle.mpl_walk.specs.Evaluated.{is_first_sum, is_first_term, is_first_unary};
+ghost use Rattle.mpl_mean.specs.FirstForm.{is_first_form, is_first_expression, is_first_item, is_first_statement, is_class, is_main, is_first_sum, is_first_term, is_first_unary};
 
 use crate::walk;
 use mpl_ast::class::{Formal, Formals, Item, Kind, ResultType};

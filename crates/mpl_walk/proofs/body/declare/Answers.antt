@@ -1,6 +1,6 @@
 use Rattle.std.proofs.Common.{◌≡◌, List, map, sym, ap, subst, ◌∙◌}
 use Rattle.mpl_ast.specs.declared.statement.Declarator.{Declarator}
-use Rattle.mpl_walk.specs.FirstForm.{is_first_local}
+use Rattle.mpl_mean.specs.FirstForm.{is_first_local}
 use Rattle.mpl_mean.specs.StatementMeaning.{declares}
 use Rattle.mpl_mean.specs.Store.{in_turn}
 use Rattle.mpl_walk.specs.Runs.{Comes, store_at}

@@ -1,7 +1,7 @@
 use Rattle.std.proofs.Common.{◌≡◌, ◌+◌, ◌∷◌, map, drop, arith, refl, sym, ap, ◌∙◌}
 use Rattle.std.proofs.lemmas.Bool.{and_parts}
 use Rattle.std.specs.List.{list_all}
-use Rattle.mpl_walk.specs.FirstForm.{is_first_statement}
+use Rattle.mpl_mean.specs.FirstForm.{is_first_statement}
 use Rattle.mpl_mean.specs.StatementMeaning.{does}
 use Rattle.mpl_mean.specs.Store.{in_turn}
 use Rattle.mpl_walk.specs.Runs.{store_at}

@@ -1,6 +1,6 @@
 use Rattle.std.proofs.Common.{◌≡◌, ◌≤◌, true, map, drop}
 use Rattle.std.specs.List.{list_all}
-use Rattle.mpl_walk.specs.FirstForm.{is_first_statement}
+use Rattle.mpl_mean.specs.FirstForm.{is_first_statement}
 use Rattle.mpl_mean.specs.Context.{Context}
 use Rattle.mpl_mean.specs.StatementMeaning.{does}
 use Rattle.mpl_mean.specs.Store.{Store, in_turn}

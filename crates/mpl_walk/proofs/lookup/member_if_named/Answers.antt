@@ -2,7 +2,7 @@ use Rattle.std.proofs.Common.{◌≡◌, ◌∷◌, List, true, false, refl, ap,
 use Rattle.std.specs.List.{list_all}
 use Rattle.std.specs.Str.{bytes_eq}
 use Rattle.mpl_ast.specs.declared.class.Item.{Item}
-use Rattle.mpl_walk.specs.FirstForm.{is_first_item}
+use Rattle.mpl_mean.specs.FirstForm.{is_first_item}
 use Rattle.mpl_mean.specs.Layout.{member_named, members_from}
 use Rattle.mpl_walk.specs.Found.{is_int_formal, SkipsMember}
 use Rattle.mpl_walk.proofs.Finding.{member_here, member_made, member_parts, skips_member}

@@ -1,7 +1,7 @@
 use Rattle.std.proofs.Common.{◌≡◌, ◌+◌, ◌∷◌, map, drop, arith, rules, sym, ap, ◌∙◌}
 use Rattle.std.proofs.lemmas.Bool.{and_parts}
 use Rattle.std.specs.List.{list_all}
-use Rattle.mpl_walk.specs.FirstForm.{is_first_flow}
+use Rattle.mpl_mean.specs.FirstForm.{is_first_flow}
 use Rattle.mpl_mean.specs.CallMeaning.{passes}
 use Rattle.mpl_mean.specs.Store.{all_of}
 use Rattle.mpl_value.specs.declared.body.BodyEnd.TheVariants as end

@@ -1,6 +1,6 @@
 use Rattle.std.proofs.Common.{◌≡◌, true, map, drop}
 use Rattle.std.specs.List.{list_all}
-use Rattle.mpl_walk.specs.FirstForm.{is_first_flow}
+use Rattle.mpl_mean.specs.FirstForm.{is_first_flow}
 use Rattle.mpl_mean.specs.CallMeaning.{passes}
 use Rattle.mpl_mean.specs.Context.{Context}
 use Rattle.mpl_mean.specs.Store.{Store, all_of}

@@ -20,6 +20,14 @@ use Rattle.mpl_ast.specs.declared.flow.Call.TheOpen.{Call-F, Flow-F}
 use Rattle.mpl_ast.specs.declared.statement.Declarator.{Declarator}
 use Rattle.mpl_ast.specs.declared.statement.Declarator.TheVariants as declarator
 use Rattle.mpl_ast.specs.declared.expression.Expression.{Expression, fold-Expression}
+use Rattle.mpl_ast.specs.declared.expression.Conjunction.{Conjunction, fold-Conjunction}
+use Rattle.mpl_ast.specs.declared.expression.Equality.{Equality, fold-Equality}
+use Rattle.mpl_ast.specs.declared.expression.Relation.{Relation, fold-Relation}
+use Rattle.mpl_ast.specs.declared.expression.Sum.{Sum, fold-Sum}
+use Rattle.mpl_ast.specs.declared.expression.Term.{Term, fold-Term}
+use Rattle.mpl_ast.specs.declared.expression.Unary.{Unary, fold-Unary}
+use Rattle.mpl_ast.specs.declared.expression.Primary.{Primary, fold-Primary}
+use Rattle.mpl_ast.specs.declared.expression.Place.{Place, fold-Place}
 use Rattle.mpl_ast.specs.declared.expression.Conjunction.TheOpen.{Conjunction-F, Equality-F, Expression-F, Place-F, Primary-F, Relation-F, Sum-F, Term-F, Unary-F}
 use Rattle.mpl_ast.specs.declared.expression.TermOperator.{TermOperator}
 use Rattle.mpl_ast.specs.declared.expression.TermOperator.TheVariants as term
@@ -85,6 +93,38 @@ place_step (Place-F.Element at line target index) = false
 
 abbrev pub is_first_expression : Expression → Bool
 is_first_expression = fold-Expression Bool Bool Bool Bool Bool Bool Bool Bool Bool
+    conjunction_step equality_step expression_step place_step primary_step relation_step sum_step term_step unary_step
+
+abbrev pub is_first_conjunction : Conjunction → Bool
+is_first_conjunction = fold-Conjunction Bool Bool Bool Bool Bool Bool Bool Bool Bool
+    conjunction_step equality_step expression_step place_step primary_step relation_step sum_step term_step unary_step
+
+abbrev pub is_first_equality : Equality → Bool
+is_first_equality = fold-Equality Bool Bool Bool Bool Bool Bool Bool Bool Bool
+    conjunction_step equality_step expression_step place_step primary_step relation_step sum_step term_step unary_step
+
+abbrev pub is_first_relation : Relation → Bool
+is_first_relation = fold-Relation Bool Bool Bool Bool Bool Bool Bool Bool Bool
+    conjunction_step equality_step expression_step place_step primary_step relation_step sum_step term_step unary_step
+
+abbrev pub is_first_sum : Sum → Bool
+is_first_sum = fold-Sum Bool Bool Bool Bool Bool Bool Bool Bool Bool
+    conjunction_step equality_step expression_step place_step primary_step relation_step sum_step term_step unary_step
+
+abbrev pub is_first_term : Term → Bool
+is_first_term = fold-Term Bool Bool Bool Bool Bool Bool Bool Bool Bool
+    conjunction_step equality_step expression_step place_step primary_step relation_step sum_step term_step unary_step
+
+abbrev pub is_first_unary : Unary → Bool
+is_first_unary = fold-Unary Bool Bool Bool Bool Bool Bool Bool Bool Bool
+    conjunction_step equality_step expression_step place_step primary_step relation_step sum_step term_step unary_step
+
+abbrev pub is_first_primary : Primary → Bool
+is_first_primary = fold-Primary Bool Bool Bool Bool Bool Bool Bool Bool Bool
+    conjunction_step equality_step expression_step place_step primary_step relation_step sum_step term_step unary_step
+
+abbrev pub is_first_place : Place → Bool
+is_first_place = fold-Place Bool Bool Bool Bool Bool Bool Bool Bool Bool
     conjunction_step equality_step expression_step place_step primary_step relation_step sum_step term_step unary_step
 
 abbrev pub flow_step : Flow-F Bool Bool → Bool
