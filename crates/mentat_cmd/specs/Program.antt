@@ -2,7 +2,7 @@
 use Rattle.std.specs.Prelude.{◌≡◌, ℕ, ◌≤◌, true, List, [], length, Result, Ok, Err}
 use Rattle.mpl_ast.specs.declared.program.Program.{Program}
 use Rattle.mpl_ast.specs.declared.token.Token.{Token}
-use Rattle.mpl_mean.specs.Built.{is_built}
+use Rattle.mpl_mean.specs.FirstForm.{is_first_form}
 use Rattle.mpl_mean.specs.DirectRun.{direct_run, IsOver}
 use Rattle.mpl_mean.specs.Lexemes.{tokens_of}
 use Rattle.mpl_mean.specs.ProgramText.{spells}
@@ -11,16 +11,16 @@ use Rattle.mpl_value.specs.declared.body.Yield.{Yield}
 use Rattle.mentat_cmd.specs.declared.run.Refusal.{Refusal}
 use Rattle.mentat_cmd.specs.declared.run.Refusal.TheVariants as refusal
 
--- a source within its limit spells the program, no token of which weighs more than 64, and which is built so far
+-- a source within its limit spells the program, no token of which weighs more than 64, and which is of the first form
 pub record Spells (source : List ℕ) (p : Program) : Type 0 where
   pub tokens : List Token
   pub short : length source ≤ 1048576
   pub lexed : tokens_of source ≡ Ok tokens
   pub spelled : spells p tokens ≡ true
   pub light : is_light p ≡ true
-  pub built : is_built p ≡ true
+  pub built : is_first_form p ≡ true
 
--- no program that is built so far has the source
+-- no program of the first form has the source
 abbrev pub SpellsNothing : List ℕ → Type 0
 SpellsNothing source = (p : Program) → Spells source p → ⊥
 

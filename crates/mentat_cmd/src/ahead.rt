@@ -42,10 +42,22 @@ fn has_name(token: &Token, name: &[u8]) -> bool
     }
 }
 
+fn has_any_name(token: &Token) -> bool
+    ensures { result ≡ spec.is_any_name token.now.kind }
+{
+    matches!(token.kind, TokenKind::Name(_))
+}
+
 fn is_number(token: &Token) -> bool
     ensures { result ≡ spec.is_any_number token.now.kind }
 {
     matches!(token.kind, TokenKind::Number(_))
+}
+
+fn is_operand(token: &Token) -> bool
+    ensures { result ≡ spec.is_operand token.now.kind }
+{
+    is_number(token) || has_any_name(token)
 }
 
 fn is_operator(token: &Token) -> bool
@@ -90,6 +102,41 @@ pub fn sees_number(tokens: &[Token]) -> bool
     }
 }
 
+pub fn sees_any_name(tokens: &[Token]) -> bool
+    ensures { result ≡ spec.first_is spec.is_any_name tokens.now }
+{
+    match tokens {
+        [token, ..] => has_any_name(token),
+        [] => false,
+    }
+}
+
+pub fn sees_operand(tokens: &[Token]) -> bool
+    ensures { result ≡ spec.first_is spec.is_operand tokens.now }
+{
+    match tokens {
+        [token, ..] => is_operand(token),
+        [] => false,
+    }
+}
+
+/// The first token begins a declaration of variables.
+pub fn begins_local(tokens: &[Token]) -> bool
+    ensures { result ≡ spec.first_is spec.begins_local tokens.now }
+{
+    match tokens {
+        [token, ..] => has_any_name(token) || has_keyword(token, Keyword::Int),
+        [] => false,
+    }
+}
+
+/// The first token begins a statement.
+pub fn begins_statement(tokens: &[Token]) -> bool
+    ensures { result ≡ spec.first_is spec.begins_statement tokens.now }
+{
+    begins_local(tokens) || sees_keyword(tokens, Keyword::Print)
+}
+
 /// The operators of the expression that begins at the first token.
 pub fn operators_ahead(tokens: &[Token]) -> Operators
     ensures all { result.all ≡ spec.operators_ahead tokens.now }
@@ -98,7 +145,7 @@ pub fn operators_ahead(tokens: &[Token]) -> Operators
     let mut found = Operators { all: 0, sums: 0 };
     let mut left = behind_first(tokens);
     while let [operator, operand, rest @ ..] = left {
-        if !is_operator(operator) || !is_number(operand) {
+        if !is_operator(operator) || !is_operand(operand) {
             break;
         }
         found.all += 1;
@@ -117,7 +164,7 @@ pub fn products_ahead(tokens: &[Token]) -> usize
     let mut found = 0;
     let mut left = behind_first(tokens);
     while let [operator, operand, rest @ ..] = left {
-        if !has_mark(operator, Mark::Star) || !is_number(operand) {
+        if !has_mark(operator, Mark::Star) || !is_operand(operand) {
             break;
         }
         found += 1;

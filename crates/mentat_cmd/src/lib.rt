@@ -2,11 +2,14 @@
 #![tactic(auto)]
 
 mod ahead;
+mod class;
 mod command;
+mod expression;
 mod output;
 mod parser;
 mod reader;
 mod run;
+mod statement;
 mod status;
 #[cfg(test)]
 mod tests;

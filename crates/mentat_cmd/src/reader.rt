@@ -1,14 +1,19 @@
 //! A reader of tokens, which numbers the nodes of the tree.
 
-ghost use Rattle.std.specs.Prelude.{◌≡◌, ◌+◌, ◌<◌, ◌^◌, ◌∷◌, true, false, length, IfOk, Err, Some};
-ghost use Rattle.mentat_cmd.specs.Ahead.{first_is};
+ghost use Rattle.std.specs.Prelude.{◌≡◌, ◌+◌, ◌<◌, ◌^◌, ◌∷◌, true, false, length, IfOk, OnOk, Err, Some};
+ghost use Rattle.mentat_cmd.specs.Ahead.{first_is, is_any_name, tail};
 ghost use Rattle.mentat_cmd.specs.Reader.{rest_of, starts, at_of};
+ghost use Rattle.mpl_mean.specs.ExpressionText.{target_text};
+ghost use Rattle.mpl_mean.specs.FirstForm.{is_variable};
 ghost use Rattle.mpl_mean.specs.Reading as reading;
 
-use crate::ahead::sees_mark;
+use crate::ahead::{sees_any_name, sees_keyword, sees_mark};
 use crate::parser::ParseFault;
-use mpl_ast::token::{Mark, Token};
-use mpl_ast::{At, Span};
+use mpl_ast::expression::Target;
+use mpl_ast::token::{Keyword, Mark, Token, TokenKind};
+use mpl_ast::{At, Name, Span};
+use mpl_value::NoMemory;
+use std::alloc::Global;
 
 #[derive(Drop)]
 pub struct Reader<'a> {
@@ -81,10 +86,70 @@ impl<'a> Reader<'a> {
     pub fn mark(&mut self, mark: Mark) -> Result<u32, ParseFault>
         ensures found { IfOk result (λ line. reading.mark_on line mark (rest_of self.old) ≡ Some (rest_of self.new)) }
         ensures unfit { result ≡ Err ParseFault.Unfit → first_is (reading.is_mark mark) self.old.left.now ≡ false }
+        ensures next { self.new.next ≡ self.old.next }
+        ensures shorter { OnOk result (length self.new.left.now < length self.old.left.now) }
     {
         if !sees_mark(self.left, mark) {
             return Err(ParseFault::Unfit);
         }
         Ok(self.take().line)
+    }
+
+    /// Reads the word.
+    pub fn keyword(&mut self, keyword: Keyword) -> Result<(), ParseFault>
+        ensures found { OnOk result (reading.keyword keyword (rest_of self.old) ≡ Some (rest_of self.new)) }
+        ensures unfit { result ≡ Err ParseFault.Unfit → first_is (reading.is_keyword keyword) self.old.left.now ≡ false }
+        ensures next { self.new.next ≡ self.old.next }
+        ensures shorter { OnOk result (length self.new.left.now < length self.old.left.now) }
+    {
+        if !sees_keyword(self.left, keyword) {
+            return Err(ParseFault::Unfit);
+        }
+        self.take();
+        Ok(())
+    }
+
+    /// Reads a name.
+    pub fn name(&mut self, alloc: Global) -> Result<Name, ParseFault>
+        ensures found { IfOk result (λ n. reading.name n (rest_of self.old) ≡ Some (rest_of self.new)) }
+        ensures unfit { result ≡ Err ParseFault.Unfit → first_is is_any_name self.old.left.now ≡ false }
+        ensures next { self.new.next ≡ self.old.next }
+        ensures shorter { OnOk result (length self.new.left.now < length self.old.left.now) }
+    {
+        if !sees_any_name(self.left) {
+            return Err(ParseFault::Unfit);
+        }
+        Ok(self.take_name(alloc)?)
+    }
+
+    /// The name that stands there.
+    pub fn take_name(&mut self, alloc: Global) -> Result<Name, NoMemory>
+        requires first { first_is is_any_name self.old.left.now ≡ true }
+        ensures found { IfOk result (λ n. reading.name n (rest_of self.old) ≡ Some (rest_of self.new)) }
+        ensures left { OnOk result (self.new.left.now ≡ tail self.old.left.now) }
+        ensures next { self.new.next ≡ self.old.next }
+    {
+        let token = self.take();
+        match &token.kind {
+            TokenKind::Name(text) => Ok(Name {
+                from: token.span.from,
+                text: text.copy(alloc)?,
+            }),
+            _ => unreachable!(),
+        }
+    }
+
+    /// The variable whose name stands there.
+    pub fn variable(&mut self, alloc: Global) -> Result<Target, NoMemory>
+        requires first { first_is is_any_name self.old.left.now ≡ true }
+        requires room { self.old.next + 1 < 2 ^ 32 }
+        ensures text { IfOk result (λ t. target_text t (rest_of self.old) ≡ Some (rest_of self.new)) }
+        ensures variable { IfOk result (λ t. is_variable t ≡ true) }
+        ensures left { OnOk result (self.new.left.now ≡ tail self.old.left.now) }
+        ensures next { OnOk result (self.new.next ≡ self.old.next + 1) }
+    {
+        let start = self.start();
+        let name = self.take_name(alloc)?;
+        Ok(Target::Variable(self.finish(start), name))
     }
 }

@@ -6,7 +6,7 @@ use crate::parser::{ParseFault, parse};
 use mpl_lexer::{LexFault, lex};
 use mpl_mean::tokens_are_few;
 use mpl_value::{BodyStart, NoMemory, Replies, Words, Yield};
-use mpl_walk::{built_comes_to_its_end, built_is_of_the_first_form, walk};
+use mpl_walk::walk;
 use std::alloc::Global;
 
 /// The turns that a run may take.
@@ -36,8 +36,6 @@ pub fn run(alloc: Global, source: &[u8]) -> Result<Yield, Refusal>
         Err(ParseFault::NoMemory) => return Err(Refusal::NoMemory),
         Err(ParseFault::Unfit) => return Err(Refusal::Unbuilt),
     };
-    built_is_of_the_first_form();
-    built_comes_to_its_end();
     let start = start_of_main(alloc);
     let replies = Replies::new(alloc);
     match walk(alloc, &program, &start, &replies, BUDGET) {
