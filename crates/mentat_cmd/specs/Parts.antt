@@ -1,14 +1,22 @@
 -- What is said of a program, said of its parts.
-use Rattle.std.specs.Prelude.{◌≡◌, ℕ, Bool, true, nat_le, List}
+use Rattle.std.specs.Prelude.{ℕ, Bool, nat_le, List}
 use Rattle.std.specs.List.{list_all}
+use Rattle.mpl_ast.specs.declared.class.Item.{Item}
 use Rattle.mpl_ast.specs.declared.expression.Expression.{Expression}
 use Rattle.mpl_ast.specs.declared.expression.Primary.{Primary, fold-Primary}
 use Rattle.mpl_ast.specs.declared.expression.Sum.{Sum, fold-Sum}
 use Rattle.mpl_ast.specs.declared.expression.Term.{Term, fold-Term}
 use Rattle.mpl_ast.specs.declared.expression.Unary.{Unary, fold-Unary}
+use Rattle.mpl_ast.specs.declared.flow.Call.{Call}
+use Rattle.mpl_ast.specs.declared.flow.Flow.{Flow}
+use Rattle.mpl_ast.specs.declared.program.Declaration.{Declaration}
+use Rattle.mpl_ast.specs.declared.statement.Block.{Block}
+use Rattle.mpl_ast.specs.declared.statement.Declarator.{Declarator}
+use Rattle.mpl_ast.specs.declared.statement.Local.{Local}
+use Rattle.mpl_ast.specs.declared.statement.Statement.{Statement}
 use Rattle.mpl_mean.specs.ExpressionText as text
 use Rattle.mpl_mean.specs.Reading.{Reads}
-use Rattle.mpl_mean.specs.Weight.{Weighs, expression_weighs}
+use Rattle.mpl_mean.specs.Weight.{block_weighs, call_weighs, declaration_weighs, declarator_weighs, expression_weighs, flow_weighs, item_weighs, local_weighs, statement_weighs}
 
 -- ---- the tokens
 
@@ -33,11 +41,31 @@ primary_text = fold-Primary Reads Reads Reads Reads Reads Reads Reads Reads Read
 abbrev pub all_light : List ℕ → Bool
 all_light = list_all (λ w. nat_le w 64)
 
--- an expression within so many brackets
+-- what stands within so many brackets
+
 abbrev pub is_light_expression : ℕ → Expression → Bool
 is_light_expression brackets e = all_light (expression_weighs e brackets).weights
 
--- what these tokens weigh within so many brackets: none is too heavy, and what is counted in them ends with them
-pub record Light (weighs : Weighs) (brackets : ℕ) : Type 0 where
-  pub weights : all_light (weighs brackets).weights ≡ true
-  pub after : (weighs brackets).after ≡ brackets
+abbrev pub is_light_flow : ℕ → Flow → Bool
+is_light_flow brackets f = all_light (flow_weighs f brackets).weights
+
+abbrev pub is_light_call : ℕ → Call → Bool
+is_light_call brackets c = all_light (call_weighs c brackets).weights
+
+abbrev pub is_light_declarator : ℕ → Declarator → Bool
+is_light_declarator brackets d = all_light (declarator_weighs d brackets).weights
+
+abbrev pub is_light_local : ℕ → Local → Bool
+is_light_local brackets l = all_light (local_weighs l brackets).weights
+
+abbrev pub is_light_statement : ℕ → Statement → Bool
+is_light_statement brackets s = all_light (statement_weighs s brackets).weights
+
+abbrev pub is_light_block : ℕ → Block → Bool
+is_light_block brackets b = all_light (block_weighs b brackets).weights
+
+abbrev pub is_light_item : Item → Bool
+is_light_item i = all_light (item_weighs i 1).weights
+
+abbrev pub is_light_declaration : Declaration → Bool
+is_light_declaration d = all_light (declaration_weighs d 0).weights

@@ -6,13 +6,12 @@ ghost use Rattle.std.specs.Option.{option_map};
 ghost use Rattle.mpl_ast.specs.declared.class.Formal.{Formal};
 ghost use Rattle.mpl_ast.specs.declared.token.Keyword.TheVariants as word;
 ghost use Rattle.mpl_ast.specs.declared.token.Mark.TheVariants as mark;
-ghost use Rattle.mpl_mean.specs.FirstForm.{are_ints, gives_result, is_class, is_first_flow, is_first_item, is_int, is_int_result, is_one_result, is_regular};
+ghost use Rattle.mpl_mean.specs.FirstForm.{are_ints, gives_result, is_class, is_first_item, is_int, is_int_result, is_one_result, is_regular};
 ghost use Rattle.mpl_mean.specs.ProgramText.{declaration_text, formal_text, formals_text, item_text, kind_text, result_text};
 ghost use Rattle.mpl_mean.specs.Reading.{◌>>◌, is_mark, is_keyword, mark, each, separated, optional};
-ghost use Rattle.mpl_mean.specs.StatementText.{block_text, flow_text, statement_text, type_text};
-ghost use Rattle.mpl_mean.specs.Weight.{block_weighs, declaration_weighs, flow_weighs, in_order, item_weighs, statement_weighs};
+ghost use Rattle.mpl_mean.specs.StatementText.{block_text, statement_text, type_text};
 ghost use Rattle.mentat_cmd.specs.Ahead.{first_is};
-ghost use Rattle.mentat_cmd.specs.Parts.{Light};
+ghost use Rattle.mentat_cmd.specs.Parts.{is_light_block, is_light_declaration, is_light_item, is_light_statement};
 ghost use Rattle.mentat_cmd.specs.Reader.{rest_of, numbered};
 ghost use Rattle.mentat_cmd.specs.Stages as stage;
 ghost use Rattle.mentat_cmd.specs.Stages.{leads};
@@ -34,8 +33,7 @@ impl<'a> Reader<'a> {
         requires room { numbered 12 (rest_of self.old) < 2 ^ 31 }
         ensures text { IfOk result (λ ds. each (map declaration_text ds) (rest_of self.old) ≡ Some (rest_of self.new)) }
         ensures built { IfOk result (λ ds. list_all is_class ds ≡ true) }
-        ensures light { IfOk result (λ ds. Light (in_order (map declaration_weighs ds)) 0) }
-        ensures leads { OnOk result (leads stage.BeforeDeclaration self.old.left.now ≡ leads stage.BeforeDeclaration self.new.left.now) }
+        ensures light { IfOk result (λ ds. list_all is_light_declaration ds ≡ true) }
         ensures end { OnOk result (first_is (is_keyword word.Regular) self.new.left.now ≡ false) }
         ensures unfit { result ≡ Err ParseFault.Unfit → leads stage.BeforeDeclaration self.old.left.now ≡ false }
         ensures room { OnOk result (numbered 12 (rest_of self.new) ≤ numbered 12 (rest_of self.old)) }
@@ -54,8 +52,7 @@ impl<'a> Reader<'a> {
         requires room { numbered 12 (rest_of self.old) < 2 ^ 31 }
         ensures text { IfOk result (λ d. declaration_text d (rest_of self.old) ≡ Some (rest_of self.new)) }
         ensures built { IfOk result (λ d. is_class d ≡ true) }
-        ensures light { IfOk result (λ d. Light (declaration_weighs d) 0) }
-        ensures leads { OnOk result (leads stage.BeforeDeclaration self.old.left.now ≡ leads stage.BeforeDeclaration self.new.left.now) }
+        ensures light { IfOk result (λ d. is_light_declaration d ≡ true) }
         ensures unfit { result ≡ Err ParseFault.Unfit → leads stage.BeforeDeclaration self.old.left.now ≡ false }
         ensures room { OnOk result (numbered 12 (rest_of self.new) ≤ numbered 12 (rest_of self.old)) }
         ensures shorter { OnOk result (length self.new.left.now < length self.old.left.now) }
@@ -90,8 +87,7 @@ impl<'a> Reader<'a> {
         requires room { numbered 12 (rest_of self.old) < 2 ^ 31 }
         ensures text { IfOk result (λ items. each (map item_text items) (rest_of self.old) ≡ Some (rest_of self.new)) }
         ensures built { IfOk result (λ items. list_all is_first_item items ≡ true) }
-        ensures light { IfOk result (λ items. Light (in_order (map item_weighs items)) 1) }
-        ensures leads { OnOk result (leads stage.InClass self.old.left.now ≡ leads stage.InClass self.new.left.now) }
+        ensures light { IfOk result (λ items. list_all is_light_item items ≡ true) }
         ensures end { OnOk result (first_is (is_keyword word.Int) self.new.left.now ≡ false) }
         ensures unfit { result ≡ Err ParseFault.Unfit → leads stage.InClass self.old.left.now ≡ false }
         ensures room { OnOk result (numbered 12 (rest_of self.new) ≤ numbered 12 (rest_of self.old)) }
@@ -110,8 +106,7 @@ impl<'a> Reader<'a> {
         requires room { numbered 12 (rest_of self.old) < 2 ^ 31 }
         ensures text { IfOk result (λ i. item_text i (rest_of self.old) ≡ Some (rest_of self.new)) }
         ensures built { IfOk result (λ i. is_first_item i ≡ true) }
-        ensures light { IfOk result (λ i. Light (item_weighs i) 1) }
-        ensures leads { OnOk result (leads stage.InClass self.old.left.now ≡ leads stage.InClass self.new.left.now) }
+        ensures light { IfOk result (λ i. is_light_item i ≡ true) }
         ensures unfit { result ≡ Err ParseFault.Unfit → leads stage.InClass self.old.left.now ≡ false }
         ensures room { OnOk result (numbered 12 (rest_of self.new) ≤ numbered 12 (rest_of self.old)) }
         ensures shorter { OnOk result (length self.new.left.now < length self.old.left.now) }
@@ -143,7 +138,6 @@ impl<'a> Reader<'a> {
         requires room { numbered 12 (rest_of self.old) < 2 ^ 31 }
         ensures text { IfOk result (λ f. (optional (option_map formals_text f) >> mark mark.CloseParenthesis) (rest_of self.old) ≡ Some (rest_of self.new)) }
         ensures built { IfOk result (λ f. are_ints f ≡ true) }
-        ensures leads { OnOk result (leads stage.InFormals self.old.left.now ≡ leads stage.BeforeBody self.new.left.now) }
         ensures unfit { result ≡ Err ParseFault.Unfit → leads stage.InFormals self.old.left.now ≡ false }
         ensures room { OnOk result (numbered 12 (rest_of self.new) ≤ numbered 12 (rest_of self.old)) }
     {
@@ -161,7 +155,6 @@ impl<'a> Reader<'a> {
         requires room { numbered 12 (rest_of self.old) < 2 ^ 31 }
         ensures text { IfOk result (λ f. formals_text f (rest_of self.old) ≡ Some (rest_of self.new)) }
         ensures built { IfOk result (λ f. are_ints (Some f) ≡ true) }
-        ensures leads { OnOk result (leads stage.BeforeFormalType self.old.left.now ≡ leads stage.BehindFormal self.new.left.now) }
         ensures end { OnOk result (first_is (is_mark mark.Comma) self.new.left.now ≡ false) }
         ensures unfit { result ≡ Err ParseFault.Unfit → leads stage.BeforeFormalType self.old.left.now ≡ false }
         ensures room { OnOk result (numbered 12 (rest_of self.new) ≤ numbered 12 (rest_of self.old)) }
@@ -182,7 +175,6 @@ impl<'a> Reader<'a> {
         requires room { numbered 11 (rest_of self.old) < 2 ^ 31 }
         ensures text { IfOk result (λ fs. separated (map formal_text fs) (rest_of self.old) ≡ Some (rest_of self.new)) }
         ensures built { IfOk result (λ fs. list_all (λ (f : Formal). is_int f.type_name) fs ≡ true) }
-        ensures leads { OnOk result (leads stage.BeforeFormalType self.old.left.now ≡ leads stage.BehindFormal self.new.left.now) }
         ensures end { OnOk result (first_is (is_mark mark.Comma) self.new.left.now ≡ false) }
         ensures unfit { result ≡ Err ParseFault.Unfit → leads stage.BeforeFormalType self.old.left.now ≡ false }
         ensures room { OnOk result (numbered 12 (rest_of self.new) + 2 ≤ numbered 12 (rest_of self.old)) }
@@ -204,7 +196,6 @@ impl<'a> Reader<'a> {
         requires room { numbered 11 (rest_of self.old) < 2 ^ 31 }
         ensures text { IfOk result (λ f. formal_text f (rest_of self.old) ≡ Some (rest_of self.new)) }
         ensures built { IfOk result (λ f. is_int f.type_name ≡ true) }
-        ensures leads { OnOk result (leads stage.BeforeFormalType self.old.left.now ≡ leads stage.BehindFormal self.new.left.now) }
         ensures unfit { result ≡ Err ParseFault.Unfit → leads stage.BeforeFormalType self.old.left.now ≡ false }
         ensures room { OnOk result (numbered 12 (rest_of self.new) + 2 ≤ numbered 12 (rest_of self.old)) }
         ensures shorter { OnOk result (length self.new.left.now < length self.old.left.now) }
@@ -222,8 +213,7 @@ impl<'a> Reader<'a> {
         requires room { numbered 12 (rest_of self.old) < 2 ^ 31 }
         ensures text { IfOk result (λ b. block_text b (rest_of self.old) ≡ Some (rest_of self.new)) }
         ensures built { IfOk result (λ b. is_one_result b.statements ≡ true) }
-        ensures light { IfOk result (λ b. Light (block_weighs b) 1) }
-        ensures leads { OnOk result (leads stage.BeforeBody self.old.left.now ≡ leads stage.InClass self.new.left.now) }
+        ensures light { IfOk result (λ b. is_light_block 1 b ≡ true) }
         ensures unfit { result ≡ Err ParseFault.Unfit → leads stage.BeforeBody self.old.left.now ≡ false }
         ensures room { OnOk result (numbered 12 (rest_of self.new) ≤ numbered 12 (rest_of self.old)) }
     {
@@ -248,8 +238,7 @@ impl<'a> Reader<'a> {
         requires room { numbered 12 (rest_of self.old) < 2 ^ 31 }
         ensures text { IfOk result (λ s. statement_text s (rest_of self.old) ≡ Some (rest_of self.new)) }
         ensures built { IfOk result (λ s. gives_result s ≡ true) }
-        ensures light { IfOk result (λ s. Light (statement_weighs s) 2) }
-        ensures leads { OnOk result (leads stage.BeforeRtf self.old.left.now ≡ leads stage.BeforeBodyEnd self.new.left.now) }
+        ensures light { IfOk result (λ s. is_light_statement 2 s ≡ true) }
         ensures unfit { result ≡ Err ParseFault.Unfit → leads stage.BeforeRtf self.old.left.now ≡ false }
         ensures room { OnOk result (numbered 12 (rest_of self.new) ≤ numbered 12 (rest_of self.old)) }
     {

@@ -4,9 +4,8 @@ ghost use Rattle.std.specs.Prelude.{◌≡◌, ◌+◌, ◌<◌, ◌≤◌, ◌^
 ghost use Rattle.mpl_mean.specs.ExpressionText.{expression_text};
 ghost use Rattle.mpl_mean.specs.FirstForm.{is_first_expression, is_first_flow, is_first_sum, is_first_term, is_first_unary, is_first_primary};
 ghost use Rattle.mpl_mean.specs.StatementText.{flow_text};
-ghost use Rattle.mpl_mean.specs.Weight.{flow_weighs};
 ghost use Rattle.mentat_cmd.specs.Ahead.{first_is, is_any_name, is_any_number, is_operand, sums_ahead, sums_behind, products_ahead, products_behind, tail};
-ghost use Rattle.mentat_cmd.specs.Parts.{primary_text, unary_text, term_text, sum_text, Light, is_light_expression};
+ghost use Rattle.mentat_cmd.specs.Parts.{primary_text, unary_text, term_text, sum_text, is_light_expression, is_light_flow};
 ghost use Rattle.mentat_cmd.specs.Reader.{rest_of, numbered};
 ghost use Rattle.mentat_cmd.specs.Stages as stage;
 ghost use Rattle.mentat_cmd.specs.Stages.{leads};
@@ -83,7 +82,7 @@ impl<'a> Reader<'a> {
         requires room { numbered 12 (rest_of self.old) < 2 ^ 31 }
         ensures text { IfOk result (λ f. flow_text f (rest_of self.old) ≡ Some (rest_of self.new)) }
         ensures built { IfOk result (λ f. is_first_flow f ≡ true) }
-        ensures light { IfOk result (λ f. Light (flow_weighs f) (stage.brackets role.now)) }
+        ensures light { IfOk result (λ f. is_light_flow (stage.brackets role.now) f ≡ true) }
         ensures leads { OnOk result (leads (stage.BeforeOperand role.now 0) self.old.left.now ≡ leads (stage.BehindExpression role.now) self.new.left.now) }
         ensures unfit { result ≡ Err ParseFault.Unfit → leads (stage.BeforeOperand role.now 0) self.old.left.now ≡ false }
         ensures room { OnOk result (numbered 12 (rest_of self.new) ≤ numbered 12 (rest_of self.old)) }

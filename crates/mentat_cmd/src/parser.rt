@@ -8,9 +8,9 @@ ghost use Rattle.mpl_mean.specs.FirstForm.{are_first, is_first_form, is_int, is_
 ghost use Rattle.mpl_mean.specs.ProgramText.{spells, declaration_text};
 ghost use Rattle.mpl_mean.specs.Reading.{is_keyword, is_name, name, each};
 ghost use Rattle.mpl_mean.specs.StatementText.{type_text};
-ghost use Rattle.mpl_mean.specs.Weight.{in_order, is_light, declaration_weighs};
+ghost use Rattle.mpl_mean.specs.Weight.{is_light};
 ghost use Rattle.mentat_cmd.specs.Ahead.{first_is};
-ghost use Rattle.mentat_cmd.specs.Parts.{Light};
+ghost use Rattle.mentat_cmd.specs.Parts.{is_light_declaration};
 ghost use Rattle.mentat_cmd.specs.Reader.{rest_of, numbered};
 ghost use Rattle.mentat_cmd.specs.Stages as stage;
 ghost use Rattle.mentat_cmd.specs.Stages.{leads};
@@ -85,8 +85,7 @@ impl<'a> Reader<'a> {
         requires room { numbered 12 (rest_of self.old) < 2 ^ 31 }
         ensures text { IfOk result (λ ds. each (map declaration_text ds) (rest_of self.old) ≡ Some (rest_of self.new)) }
         ensures built { IfOk result (λ ds. are_first ds ≡ true) }
-        ensures light { IfOk result (λ ds. Light (in_order (map declaration_weighs ds)) 0) }
-        ensures leads { OnOk result (leads stage.BeforeDeclaration self.old.left.now ≡ leads stage.AtEnd self.new.left.now) }
+        ensures light { IfOk result (λ ds. list_all is_light_declaration ds ≡ true) }
         ensures unfit { result ≡ Err ParseFault.Unfit → leads stage.BeforeDeclaration self.old.left.now ≡ false }
     {
         let mut declarations = self.classes(alloc)?;
@@ -101,8 +100,7 @@ impl<'a> Reader<'a> {
         requires room { numbered 12 (rest_of self.old) < 2 ^ 31 }
         ensures text { IfOk result (λ d. declaration_text d (rest_of self.old) ≡ Some (rest_of self.new)) }
         ensures built { IfOk result (λ d. is_main d ≡ true) }
-        ensures light { IfOk result (λ d. Light (declaration_weighs d) 0) }
-        ensures leads { OnOk result (leads stage.BeforeDeclaration self.old.left.now ≡ leads stage.AtEnd self.new.left.now) }
+        ensures light { IfOk result (λ d. is_light_declaration d ≡ true) }
         ensures unfit { result ≡ Err ParseFault.Unfit → leads stage.BeforeDeclaration self.old.left.now ≡ false }
     {
         if !sees_keyword(self.left, Keyword::Int) {

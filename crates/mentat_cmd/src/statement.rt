@@ -10,9 +10,8 @@ ghost use Rattle.mpl_mean.specs.ExpressionText.{expression_text, target_text};
 ghost use Rattle.mpl_mean.specs.FirstForm.{is_call, is_first_call, is_first_declarator, is_first_expression, is_first_flow, is_first_local, is_first_statement, is_int, is_named, is_variable};
 ghost use Rattle.mpl_mean.specs.Reading.{◌>>◌, is_mark, is_keyword, mark, each, separated, separated_if_any};
 ghost use Rattle.mpl_mean.specs.StatementText.{block_text, call_text, declarator_text, flow_text, local_text, statement_text, type_text};
-ghost use Rattle.mpl_mean.specs.Weight.{block_weighs, call_weighs, declarator_weighs, expression_weighs, flow_weighs, in_order, local_weighs, statement_weighs, with_commas};
 ghost use Rattle.mentat_cmd.specs.Ahead.{begins_local, begins_statement, first_is, is_any_name};
-ghost use Rattle.mentat_cmd.specs.Parts.{Light};
+ghost use Rattle.mentat_cmd.specs.Parts.{is_light_block, is_light_call, is_light_declarator, is_light_expression, is_light_flow, is_light_local, is_light_statement};
 ghost use Rattle.mentat_cmd.specs.Reader.{rest_of, numbered};
 ghost use Rattle.mentat_cmd.specs.Stages as stage;
 ghost use Rattle.mentat_cmd.specs.declared.expression.Role.TheVariants.{Printed, Passed};
@@ -36,8 +35,7 @@ impl<'a> Reader<'a> {
         requires room { numbered 12 (rest_of self.old) < 2 ^ 31 }
         ensures text { IfOk result (λ b. block_text b (rest_of self.old) ≡ Some (rest_of self.new)) }
         ensures built { IfOk result (λ b. list_all is_first_statement b.statements ≡ true) }
-        ensures light { IfOk result (λ b. Light (block_weighs b) 0) }
-        ensures leads { OnOk result (leads stage.BeforeBlock self.old.left.now ≡ leads stage.AtEnd self.new.left.now) }
+        ensures light { IfOk result (λ b. is_light_block 0 b ≡ true) }
         ensures unfit { result ≡ Err ParseFault.Unfit → leads stage.BeforeBlock self.old.left.now ≡ false }
     {
         if !sees_mark(self.left, Mark::OpenBrace) {
@@ -59,8 +57,7 @@ impl<'a> Reader<'a> {
         requires room { numbered 12 (rest_of self.old) < 2 ^ 31 }
         ensures text { IfOk result (λ s. each (map statement_text s) (rest_of self.old) ≡ Some (rest_of self.new)) }
         ensures built { IfOk result (λ s. list_all is_first_statement s ≡ true) }
-        ensures light { IfOk result (λ s. Light (in_order (map statement_weighs s)) 1) }
-        ensures leads { OnOk result (leads stage.InBlock self.old.left.now ≡ leads stage.InBlock self.new.left.now) }
+        ensures light { IfOk result (λ s. list_all (is_light_statement 1) s ≡ true) }
         ensures end { OnOk result (first_is begins_statement self.new.left.now ≡ false) }
         ensures unfit { result ≡ Err ParseFault.Unfit → leads stage.InBlock self.old.left.now ≡ false }
     {
@@ -78,8 +75,7 @@ impl<'a> Reader<'a> {
         requires room { numbered 12 (rest_of self.old) < 2 ^ 31 }
         ensures text { IfOk result (λ s. statement_text s (rest_of self.old) ≡ Some (rest_of self.new)) }
         ensures built { IfOk result (λ s. is_first_statement s ≡ true) }
-        ensures light { IfOk result (λ s. Light (statement_weighs s) 1) }
-        ensures leads { OnOk result (leads stage.InBlock self.old.left.now ≡ leads stage.InBlock self.new.left.now) }
+        ensures light { IfOk result (λ s. is_light_statement 1 s ≡ true) }
         ensures unfit { result ≡ Err ParseFault.Unfit → leads stage.InBlock self.old.left.now ≡ false }
         ensures shorter { OnOk result (length self.new.left.now < length self.old.left.now) }
         ensures room { OnOk result (numbered 12 (rest_of self.new) ≤ numbered 12 (rest_of self.old)) }
@@ -97,8 +93,7 @@ impl<'a> Reader<'a> {
         requires room { numbered 12 (rest_of self.old) < 2 ^ 31 }
         ensures text { IfOk result (λ s. statement_text s (rest_of self.old) ≡ Some (rest_of self.new)) }
         ensures built { IfOk result (λ s. is_first_statement s ≡ true) }
-        ensures light { IfOk result (λ s. Light (statement_weighs s) 1) }
-        ensures leads { OnOk result (leads stage.InBlock self.old.left.now ≡ leads stage.InBlock self.new.left.now) }
+        ensures light { IfOk result (λ s. is_light_statement 1 s ≡ true) }
         ensures unfit { result ≡ Err ParseFault.Unfit → leads stage.InBlock self.old.left.now ≡ false }
         ensures shorter { OnOk result (length self.new.left.now < length self.old.left.now) }
         ensures room { OnOk result (numbered 12 (rest_of self.new) ≤ numbered 12 (rest_of self.old)) }
@@ -117,7 +112,7 @@ impl<'a> Reader<'a> {
         requires room { numbered 12 (rest_of self.old) < 2 ^ 31 }
         ensures text { IfOk result (λ a. separated (map expression_text a) (rest_of self.old) ≡ Some (rest_of self.new)) }
         ensures built { IfOk result (λ a. list_all is_first_expression a ≡ true) }
-        ensures light { IfOk result (λ a. Light (with_commas (map expression_weighs a)) 2) }
+        ensures light { IfOk result (λ a. list_all (is_light_expression 2) a ≡ true) }
         ensures leads { OnOk result (leads (stage.BeforeOperand Printed 0) self.old.left.now ≡ leads (stage.BehindExpression Printed) self.new.left.now) }
         ensures end { OnOk result (first_is (is_mark mark.Comma) self.new.left.now ≡ false) }
         ensures unfit { result ≡ Err ParseFault.Unfit → leads (stage.BeforeOperand Printed 0) self.old.left.now ≡ false }
@@ -141,8 +136,7 @@ impl<'a> Reader<'a> {
         requires room { numbered 12 (rest_of self.old) < 2 ^ 31 }
         ensures text { IfOk result (λ s. statement_text s (rest_of self.old) ≡ Some (rest_of self.new)) }
         ensures built { IfOk result (λ s. is_first_statement s ≡ true) }
-        ensures light { IfOk result (λ s. Light (statement_weighs s) 1) }
-        ensures leads { OnOk result (leads stage.InBlock self.old.left.now ≡ leads stage.InBlock self.new.left.now) }
+        ensures light { IfOk result (λ s. is_light_statement 1 s ≡ true) }
         ensures unfit { result ≡ Err ParseFault.Unfit → leads stage.InBlock self.old.left.now ≡ false }
         ensures shorter { OnOk result (length self.new.left.now < length self.old.left.now) }
         ensures room { OnOk result (numbered 12 (rest_of self.new) ≤ numbered 12 (rest_of self.old)) }
@@ -159,8 +153,7 @@ impl<'a> Reader<'a> {
         requires room { numbered 11 (rest_of self.old) < 2 ^ 31 }
         ensures text { IfOk result (λ l. local_text l (rest_of self.old) ≡ Some (rest_of self.new)) }
         ensures built { IfOk result (λ l. is_first_local l.type_name l.declarators ≡ true) }
-        ensures light { IfOk result (λ l. Light (local_weighs l) 1) }
-        ensures leads { OnOk result (leads stage.InBlock self.old.left.now ≡ leads stage.BeforeSemicolon self.new.left.now) }
+        ensures light { IfOk result (λ l. is_light_local 1 l ≡ true) }
         ensures unfit { result ≡ Err ParseFault.Unfit → leads stage.InBlock self.old.left.now ≡ false }
         ensures shorter { OnOk result (length self.new.left.now < length self.old.left.now) }
         ensures room { OnOk result (numbered 12 (rest_of self.new) + 2 ≤ numbered 12 (rest_of self.old)) }
@@ -205,8 +198,7 @@ impl<'a> Reader<'a> {
         requires room { self.old.next + 1 < 2 ^ 32 }
         ensures text { IfOk result (λ d. declarator_text d (rest_of self.old) ≡ Some (rest_of self.new)) }
         ensures built { IfOk result (λ d. (t : TypeName) → is_named t ≡ true → is_first_declarator t d ≡ true) }
-        ensures light { IfOk result (λ d. Light (declarator_weighs d) 1) }
-        ensures leads { OnOk result (leads stage.BeforeVariable self.old.left.now ≡ leads stage.BeforeSemicolon self.new.left.now) }
+        ensures light { IfOk result (λ d. is_light_declarator 1 d ≡ true) }
         ensures unfit { result ≡ Err ParseFault.Unfit → leads stage.BeforeVariable self.old.left.now ≡ false }
         ensures room { OnOk result (numbered 12 (rest_of self.new) + 10 ≤ numbered 12 (rest_of self.old)) }
     {
@@ -223,8 +215,7 @@ impl<'a> Reader<'a> {
         requires room { numbered 11 (rest_of self.old) < 2 ^ 31 }
         ensures text { IfOk result (λ d. declarator_text d (rest_of self.old) ≡ Some (rest_of self.new)) }
         ensures built { IfOk result (λ d. (t : TypeName) → is_int t ≡ true → is_first_declarator t d ≡ true) }
-        ensures light { IfOk result (λ d. Light (declarator_weighs d) 1) }
-        ensures leads { OnOk result (leads stage.BeforeResult self.old.left.now ≡ leads stage.BeforeSemicolon self.new.left.now) }
+        ensures light { IfOk result (λ d. is_light_declarator 1 d ≡ true) }
         ensures unfit { result ≡ Err ParseFault.Unfit → leads stage.BeforeResult self.old.left.now ≡ false }
         ensures room { OnOk result (numbered 12 (rest_of self.new) ≤ numbered 12 (rest_of self.old)) }
     {
@@ -243,8 +234,7 @@ impl<'a> Reader<'a> {
         requires room { numbered 12 (rest_of self.old) < 2 ^ 31 }
         ensures text { IfOk result (λ f. flow_text f (rest_of self.old) ≡ Some (rest_of self.new)) }
         ensures built { IfOk result (λ f. is_call (out-Flow f) ≡ true) }
-        ensures light { IfOk result (λ f. Light (flow_weighs f) 1) }
-        ensures leads { OnOk result (leads stage.BeforeReceiver self.old.left.now ≡ leads stage.BeforeSemicolon self.new.left.now) }
+        ensures light { IfOk result (λ f. is_light_flow 1 f ≡ true) }
         ensures unfit { result ≡ Err ParseFault.Unfit → leads stage.BeforeReceiver self.old.left.now ≡ false }
         ensures room { OnOk result (numbered 12 (rest_of self.new) ≤ numbered 12 (rest_of self.old)) }
     {
@@ -262,8 +252,7 @@ impl<'a> Reader<'a> {
         requires room { numbered 11 (rest_of self.old) < 2 ^ 31 }
         ensures text { IfOk result (λ c. call_text c (rest_of self.old) ≡ Some (rest_of self.new)) }
         ensures built { IfOk result (λ c. is_first_call c ≡ true) }
-        ensures light { IfOk result (λ c. Light (call_weighs c) 1) }
-        ensures leads { OnOk result (leads stage.BeforeReceiver self.old.left.now ≡ leads stage.BeforeSemicolon self.new.left.now) }
+        ensures light { IfOk result (λ c. is_light_call 1 c ≡ true) }
         ensures unfit { result ≡ Err ParseFault.Unfit → leads stage.BeforeReceiver self.old.left.now ≡ false }
         ensures room { OnOk result (numbered 12 (rest_of self.new) + 2 ≤ numbered 12 (rest_of self.old)) }
     {
@@ -281,8 +270,7 @@ impl<'a> Reader<'a> {
         requires room { numbered 12 (rest_of self.old) < 2 ^ 31 }
         ensures text { IfOk result (λ a. (separated_if_any (map flow_text a) >> mark mark.CloseParenthesis) (rest_of self.old) ≡ Some (rest_of self.new)) }
         ensures built { IfOk result (λ a. list_all is_first_flow a ≡ true) }
-        ensures light { IfOk result (λ a. Light (with_commas (map flow_weighs a)) 2) }
-        ensures leads { OnOk result (leads stage.BeforeArguments self.old.left.now ≡ leads stage.BeforeSemicolon self.new.left.now) }
+        ensures light { IfOk result (λ a. list_all (is_light_flow 2) a ≡ true) }
         ensures unfit { result ≡ Err ParseFault.Unfit → leads stage.BeforeArguments self.old.left.now ≡ false }
         ensures room { OnOk result (numbered 12 (rest_of self.new) ≤ numbered 12 (rest_of self.old)) }
     {
@@ -300,7 +288,7 @@ impl<'a> Reader<'a> {
         requires room { numbered 12 (rest_of self.old) < 2 ^ 31 }
         ensures text { IfOk result (λ a. separated (map flow_text a) (rest_of self.old) ≡ Some (rest_of self.new)) }
         ensures built { IfOk result (λ a. list_all is_first_flow a ≡ true) }
-        ensures light { IfOk result (λ a. Light (with_commas (map flow_weighs a)) 2) }
+        ensures light { IfOk result (λ a. list_all (is_light_flow 2) a ≡ true) }
         ensures leads { OnOk result (leads (stage.BeforeOperand Passed 0) self.old.left.now ≡ leads (stage.BehindExpression Passed) self.new.left.now) }
         ensures end { OnOk result (first_is (is_mark mark.Comma) self.new.left.now ≡ false) }
         ensures some { IfOk result (λ a. 0 < length a) }
