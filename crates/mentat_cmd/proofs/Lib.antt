@@ -1,6 +1,9 @@
 mod AnswerLemmas
 pub mod Chains
+pub mod Layers
+pub mod Leading
 pub mod Led
 pub mod Lookahead
 mod OutputLemmas
 pub mod Steps
+pub mod Weights
