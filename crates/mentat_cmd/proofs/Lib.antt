@@ -6,4 +6,5 @@ pub mod Led
 pub mod Lookahead
 mod OutputLemmas
 pub mod Steps
+pub mod Turns
 pub mod Weights
