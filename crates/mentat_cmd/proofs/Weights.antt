@@ -20,15 +20,15 @@ use Rattle.mpl_ast.specs.declared.place.At.{At}
 use Rattle.mpl_ast.specs.declared.place.Name.{Name}
 use Rattle.mpl_ast.specs.declared.program.Declaration.{Declaration}
 use Rattle.mpl_ast.specs.declared.program.Declaration.TheVariants as declaration
+use Rattle.mpl_ast.specs.declared.program.Program.{Program}
 use Rattle.mpl_ast.specs.declared.statement.Block.{Block}
 use Rattle.mpl_ast.specs.declared.statement.Declarator.{Declarator}
-use Rattle.mpl_ast.specs.declared.statement.Declarator.TheVariants as declarator
 use Rattle.mpl_ast.specs.declared.statement.Local.{Local}
 use Rattle.mpl_ast.specs.declared.statement.Statement.{Statement}
 use Rattle.mpl_ast.specs.declared.statement.Statement as statement
 use Rattle.mpl_ast.specs.declared.statement.TypeName.{TypeName}
 use Rattle.mpl_mean.specs.FirstForm.{is_variable}
-use Rattle.mpl_mean.specs.Weight.{Weighs, no_token, ◌⨾◌, plain, bracketed, with_commas, each_after_comma, in_order, if_any, whole, expression_weighs, flow_weighs, call_weighs, statement_weighs, block_weighs, declarator_weighs, local_weighs, formals_weighs, function_weighs, item_weighs, declaration_weighs, target_weighs, is_light}
+use Rattle.mpl_mean.specs.Weight.{Weighs, ◌⨾◌, plain, bracketed, with_commas, each_after_comma, in_order, if_any, expression_weighs, flow_weighs, call_weighs, statement_weighs, block_weighs, declarator_weighs, local_weighs, formals_weighs, item_weighs, declaration_weighs, target_weighs, is_light}
 use Rattle.mentat_cmd.specs.Parts.{all_light, is_light_expression, is_light_flow, is_light_call, is_light_declarator, is_light_local, is_light_statement, is_light_block, is_light_item, is_light_declaration}
 use Rattle.mentat_cmd.proofs.Layers.{statement_weighs-print, statement_weighs-declare, statement_weighs-rtf, flow_weighs-call, call_weighs-target}
 
@@ -74,40 +74,64 @@ light-bracketed a w f deep up =
     ∙ ap (λ b. all_light inner && (b && true)) up
     ∙ and-true _
 
--- ---- expressions with commas
+-- ---- parts with commas, and one after another
 
-pub closes-expressions : (es : List Expression) → Closes (with_commas (map expression_weighs es))
-closes-expressions [] w = refl
-closes-expressions (e ∷ es) w = after es w where
-  after : (es : List Expression) → Closes (each_after_comma (map expression_weighs es))
-  after [] w = refl
-  after (e ∷ es) w = after es w
+-- what is counted in each part ends with it
+abbrev pub AllClose : {A : Type 0} → (A → Weighs) → List A → Type 0
+AllClose f [] = Unit {0}
+AllClose f (x ∷ xs) = Closes (f x) × AllClose f xs
 
-commas-light : (es : List Expression) → all_light (each_after_comma (map expression_weighs es) 2).weights ≡ list_all (is_light_expression 2) es
-commas-light [] = refl
-commas-light (e ∷ es) =
-    both (λ w. nat_le w 64) (expression_weighs e 2).weights _ ∙ ap (λ b. is_light_expression 2 e && b) (commas-light es)
+closes-after_commas : {A : Type 0} (f : A → Weighs) (xs : List A) → AllClose f xs → Closes (each_after_comma (map f xs))
+closes-after_commas f [] c w = refl
+closes-after_commas f (x ∷ xs) c w = closes-after_commas f xs c.1 (f x w).after ∙ c.0 w
 
-pub light-expressions : (es : List Expression) → all_light (with_commas (map expression_weighs es) 2).weights ≡ list_all (is_light_expression 2) es
-light-expressions [] = refl
-light-expressions (e ∷ es) =
-    both (λ w. nat_le w 64) (expression_weighs e 2).weights _ ∙ ap (λ b. is_light_expression 2 e && b) (commas-light es)
+pub closes-commas : {A : Type 0} (f : A → Weighs) (xs : List A) → AllClose f xs → Closes (with_commas (map f xs))
+closes-commas f [] c w = refl
+closes-commas f (x ∷ xs) c w = closes-after_commas f xs c.1 (f x w).after ∙ c.0 w
+
+light-after_commas : {A : Type 0} (f : A → Weighs) (w : ℕ) (xs : List A) → nat_le w 64 ≡ true → AllClose f xs → all_light (each_after_comma (map f xs) w).weights ≡ list_all (λ x. all_light (f x w).weights) xs
+light-after_commas f w [] up c = refl
+light-after_commas f w (x ∷ xs) up c =
+    ap (λ b. b && all_light ((f x ⨾ each_after_comma (map f xs)) w).weights) up
+    ∙ light-then (f x) (each_after_comma (map f xs)) w c.0
+    ∙ ap (λ b. all_light (f x w).weights && b) (light-after_commas f w xs up c.1)
+
+pub light-commas : {A : Type 0} (f : A → Weighs) (w : ℕ) (xs : List A) → nat_le w 64 ≡ true → AllClose f xs → all_light (with_commas (map f xs) w).weights ≡ list_all (λ x. all_light (f x w).weights) xs
+light-commas f w [] up c = refl
+light-commas f w (x ∷ xs) up c =
+    light-then (f x) (each_after_comma (map f xs)) w c.0 ∙ ap (λ b. all_light (f x w).weights && b) (light-after_commas f w xs up c.1)
+
+pub closes-in_order : {A : Type 0} (f : A → Weighs) (xs : List A) → AllClose f xs → Closes (in_order (map f xs))
+closes-in_order f [] c w = refl
+closes-in_order f (x ∷ xs) c w = closes-in_order f xs c.1 (f x w).after ∙ c.0 w
+
+pub light-in_order : {A : Type 0} (f : A → Weighs) (w : ℕ) (xs : List A) → AllClose f xs → all_light (in_order (map f xs) w).weights ≡ list_all (λ x. all_light (f x w).weights) xs
+light-in_order f w [] c = refl
+light-in_order f w (x ∷ xs) c =
+    light-then (f x) (in_order (map f xs)) w c.0 ∙ ap (λ b. all_light (f x w).weights && b) (light-in_order f w xs c.1)
+
+-- ---- print
+
+all_expressions : (es : List Expression) → AllClose expression_weighs es
+all_expressions [] = tt
+all_expressions (e ∷ es) = (λ w. refl, all_expressions es)
 
 pub light-print : (at : At) (es : List Expression) → is_light_statement 1 (statement.Print at es) ≡ list_all (is_light_expression 2) es
 light-print at es =
     let inner = with_commas (map expression_weighs es) in
+    let closes = closes-commas expression_weighs es (all_expressions es) in
     ap (λ (w : Weighs). all_light (w 1).weights) (statement_weighs-print at es)
-    ∙ light-then (bracketed inner) plain 1 (closes-bracketed inner (closes-expressions es))
+    ∙ light-then (bracketed inner) plain 1 (closes-bracketed inner closes)
     ∙ and-true _
-    ∙ light-bracketed inner 1 (closes-expressions es) refl refl
-    ∙ light-expressions es
+    ∙ light-bracketed inner 1 closes refl refl
+    ∙ light-commas expression_weighs 2 es refl (all_expressions es)
 
 pub closes-print : (at : At) (es : List Expression) → Closes (statement_weighs (statement.Print at es))
 closes-print at es w =
     let inner = with_commas (map expression_weighs es) in
-    ap (λ (a : Weighs). (a w).after) (statement_weighs-print at es) ∙ closes-bracketed inner (closes-expressions es) w
+    ap (λ (a : Weighs). (a w).after) (statement_weighs-print at es) ∙ closes-bracketed inner (closes-commas expression_weighs es (all_expressions es)) w
 
--- ---- what is passed on
+-- ---- a result
 
 pub light-rtf : (at : At) (f : Flow) → Closes (flow_weighs f) → is_light_statement 2 (statement.Rtf at f) ≡ is_light_flow 3 f
 light-rtf at f closes =
@@ -120,43 +144,21 @@ pub closes-rtf : (at : At) (f : Flow) → Closes (flow_weighs f) → Closes (sta
 closes-rtf at f closes w =
     ap (λ (a : Weighs). (a w).after) (statement_weighs-rtf at f) ∙ closes-bracketed (flow_weighs f) closes w
 
--- flows that all close, with commas
-abbrev pub AllClose : List Flow → Type 0
-AllClose [] = Unit {0}
-AllClose (f ∷ fs) = Closes (flow_weighs f) × AllClose fs
-
-pub closes-after_commas : (fs : List Flow) → AllClose fs → Closes (each_after_comma (map flow_weighs fs))
-closes-after_commas [] c w = refl
-closes-after_commas (f ∷ fs) c w = closes-after_commas fs c.1 _ ∙ c.0 w
-
-pub closes-flows : (fs : List Flow) → AllClose fs → Closes (with_commas (map flow_weighs fs))
-closes-flows [] c w = refl
-closes-flows (f ∷ fs) c w = closes-after_commas fs c.1 _ ∙ c.0 w
-
-after_commas-light : (fs : List Flow) → AllClose fs → all_light (each_after_comma (map flow_weighs fs) 2).weights ≡ list_all (is_light_flow 2) fs
-after_commas-light [] c = refl
-after_commas-light (f ∷ fs) c =
-    light-then (flow_weighs f) (each_after_comma (map flow_weighs fs)) 2 c.0 ∙ ap (λ b. is_light_flow 2 f && b) (after_commas-light fs c.1)
-
-pub light-flows : (fs : List Flow) → AllClose fs → all_light (with_commas (map flow_weighs fs) 2).weights ≡ list_all (is_light_flow 2) fs
-light-flows [] c = refl
-light-flows (f ∷ fs) c =
-    light-then (flow_weighs f) (each_after_comma (map flow_weighs fs)) 2 c.0 ∙ ap (λ b. is_light_flow 2 f && b) (after_commas-light fs c.1)
-
 -- ---- calls
 
-pub light-call : (at : At) (t : Target) (n : Name) (fs : List Flow) → is_variable t ≡ true → AllClose fs → is_light_call 1 (call.OnTarget at t n fs) ≡ list_all (is_light_flow 2) fs
+pub light-call : (at : At) (t : Target) (n : Name) (fs : List Flow) → is_variable t ≡ true → AllClose flow_weighs fs → is_light_call 1 (call.OnTarget at t n fs) ≡ list_all (is_light_flow 2) fs
 light-call at (target.Field place variable field) n fs v c = absurd cc
 light-call at (target.Variable place variable) n fs v c =
     let inner = with_commas (map flow_weighs fs) in
     ap (λ (w : Weighs). all_light (w 1).weights) (call_weighs-target at (target.Variable place variable) n fs)
-    ∙ light-bracketed inner 1 (closes-flows fs c) refl refl
-    ∙ light-flows fs c
+    ∙ light-bracketed inner 1 (closes-commas flow_weighs fs c) refl refl
+    ∙ light-commas flow_weighs 2 fs refl c
 
-pub closes-call : (at : At) (t : Target) (n : Name) (fs : List Flow) → is_variable t ≡ true → AllClose fs → Closes (call_weighs (call.OnTarget at t n fs))
+pub closes-call : (at : At) (t : Target) (n : Name) (fs : List Flow) → is_variable t ≡ true → AllClose flow_weighs fs → Closes (call_weighs (call.OnTarget at t n fs))
 closes-call at (target.Field place variable field) n fs v c w = absurd cc
 closes-call at (target.Variable place variable) n fs v c w =
-    ap (λ (a : Weighs). (a w).after) (call_weighs-target at (target.Variable place variable) n fs) ∙ closes-bracketed (with_commas (map flow_weighs fs)) (closes-flows fs c) w
+    ap (λ (a : Weighs). (a w).after) (call_weighs-target at (target.Variable place variable) n fs)
+    ∙ closes-bracketed (with_commas (map flow_weighs fs)) (closes-commas flow_weighs fs c) w
 
 pub light-call_flow : (at : At) (c : Call) → is_light_flow 1 (flow.OfCall at c) ≡ is_light_call 1 c
 light-call_flow at c = ap (λ (w : Weighs). all_light (w 1).weights) (flow_weighs-call at c)
@@ -166,14 +168,8 @@ closes-call_flow at c closes w = ap (λ (a : Weighs). (a w).after) (flow_weighs-
 
 -- ---- variables
 
-pub light-initialized : (at : At) (n : Name) (f : Flow) → is_light_declarator 1 (declarator.Initialized at n f) ≡ is_light_flow 1 f
-light-initialized at n f = refl
-
-pub light-one : (at : At) (t : TypeName) (d : Declarator) → is_light_local 1 (record { at = at; type_name = t; declarators = d ∷ [] }) ≡ is_light_declarator 1 d
+pub light-one : (at : At) (t : TypeName) (d : Declarator) → (let l : Local = record { at = at; type_name = t; declarators = d ∷ [] } in is_light_local 1 l) ≡ is_light_declarator 1 d
 light-one at t d = both (λ n. nat_le n 64) (declarator_weighs d 1).weights [] ∙ and-true _
-
-pub closes-one : (at : At) (t : TypeName) (d : Declarator) → Closes (declarator_weighs d) → (let l : Local = record { at = at; type_name = t; declarators = d ∷ [] } in Closes (local_weighs l))
-closes-one at t d closes w = closes w
 
 pub light-declare : (at : At) (l : Local) → Closes (local_weighs l) → is_light_statement 1 (statement.Declare at l) ≡ is_light_local 1 l
 light-declare at l closes =
@@ -186,42 +182,65 @@ closes-declare at l closes w = ap (λ (a : Weighs). (a w).after) (statement_weig
 
 -- ---- blocks
 
--- statements that all close, one after another
-abbrev pub AllEnd : List Statement → Type 0
-AllEnd [] = Unit {0}
-AllEnd (s ∷ ss) = Closes (statement_weighs s) × AllEnd ss
-
-pub closes-statements : (ss : List Statement) → AllEnd ss → Closes (in_order (map statement_weighs ss))
-closes-statements [] c w = refl
-closes-statements (s ∷ ss) c w = closes-statements ss c.1 _ ∙ c.0 w
-
-pub light-statements : (brackets : ℕ) (ss : List Statement) → AllEnd ss → all_light (in_order (map statement_weighs ss) brackets).weights ≡ list_all (is_light_statement brackets) ss
-light-statements brackets [] c = refl
-light-statements brackets (s ∷ ss) c =
-    light-then (statement_weighs s) (in_order (map statement_weighs ss)) brackets c.0
-    ∙ ap (λ b. is_light_statement brackets s && b) (light-statements brackets ss c.1)
-
-pub light-block : (b : Block) (brackets : ℕ) → AllEnd b.statements → nat_le (brackets + 1) 64 ≡ true → nat_le brackets 64 ≡ true → is_light_block brackets b ≡ list_all (is_light_statement (brackets + 1)) b.statements
+pub light-block : (b : Block) (brackets : ℕ) → AllClose statement_weighs b.statements → nat_le (brackets + 1) 64 ≡ true → nat_le brackets 64 ≡ true → is_light_block brackets b ≡ list_all (is_light_statement (brackets + 1)) b.statements
 light-block b brackets c deep up =
-    light-bracketed (in_order (map statement_weighs b.statements)) brackets (closes-statements b.statements c) deep up
-    ∙ light-statements (brackets + 1) b.statements c
+    light-bracketed (in_order (map statement_weighs b.statements)) brackets (closes-in_order statement_weighs b.statements c) deep up
+    ∙ light-in_order statement_weighs (brackets + 1) b.statements c
 
-pub closes-block : (b : Block) → AllEnd b.statements → Closes (block_weighs b)
-closes-block b c = closes-bracketed (in_order (map statement_weighs b.statements)) (closes-statements b.statements c)
+pub closes-block : (b : Block) → AllClose statement_weighs b.statements → Closes (block_weighs b)
+closes-block b c = closes-bracketed (in_order (map statement_weighs b.statements)) (closes-in_order statement_weighs b.statements c)
 
 -- ---- members
 
-after_formals : (fs : List Formal) (w : ℕ) → nat_le w 64 ≡ true → (all_light (each_after_comma (map (λ (f : Formal). plain ⨾ plain) fs) w).weights ≡ true) × ((each_after_comma (map (λ (f : Formal). plain ⨾ plain) fs) w).after ≡ w)
-after_formals [] w h = (refl, refl)
-after_formals (f ∷ fs) w h =
-    let p = after_formals fs w h in
-    (ap (λ b. b && (b && (b && all_light (each_after_comma (map (λ (f : Formal). plain ⨾ plain) fs) w).weights))) h ∙ p.0, p.1)
+abbrev formal_weighs : Formal → Weighs
+formal_weighs formal = plain ⨾ plain
 
-formals-weigh : (fs : Option Formals) (w : ℕ) → nat_le w 64 ≡ true → (all_light (if_any (option_map formals_weighs fs) w).weights ≡ true) × ((if_any (option_map formals_weighs fs) w).after ≡ w)
-formals-weigh None w h = (refl, refl)
-formals-weigh (Some fs) w h = listed fs.list where
-  listed : (list : List Formal) → (all_light (with_commas (map (λ (f : Formal). plain ⨾ plain) list) w).weights ≡ true) × ((with_commas (map (λ (f : Formal). plain ⨾ plain) list) w).after ≡ w)
-  listed [] = (refl, refl)
-  listed (f ∷ list) =
-      let p = after_formals list w h in
-      (ap (λ b. b && (b && all_light (each_after_comma (map (λ (f : Formal). plain ⨾ plain) list) w).weights)) h ∙ p.0, p.1)
+abbrev any_formals : Option Formals → Weighs
+any_formals fs = if_any (option_map formals_weighs fs)
+
+all_formals : (fs : List Formal) → AllClose formal_weighs fs
+all_formals [] = tt
+all_formals (f ∷ fs) = (λ w. refl, all_formals fs)
+
+closes-formals : (fs : Option Formals) → Closes (any_formals fs)
+closes-formals None w = refl
+closes-formals (Some fs) w = closes-commas formal_weighs fs.list (all_formals fs.list) w
+
+all-plain : (fs : List Formal) → list_all (λ (f : Formal). all_light (formal_weighs f 2).weights) fs ≡ true
+all-plain [] = refl
+all-plain (f ∷ fs) = all-plain fs
+
+light-formals : (fs : Option Formals) → all_light (any_formals fs 2).weights ≡ true
+light-formals None = refl
+light-formals (Some fs) = light-commas formal_weighs 2 fs.list refl (all_formals fs.list) ∙ all-plain fs.list
+
+pub light-member : (at : At) (result : ResultType) (n : Name) (fs : Option Formals) (b : Block) → is_light_item (item.Member at result n fs b) ≡ is_light_block 1 b
+light-member at result n fs b =
+    light-then (bracketed (any_formals fs)) (block_weighs b) 1 (closes-bracketed (any_formals fs) (closes-formals fs))
+    ∙ ap (λ c. c && is_light_block 1 b) (light-bracketed (any_formals fs) 1 (closes-formals fs) refl refl ∙ light-formals fs)
+
+pub closes-member : (at : At) (result : ResultType) (n : Name) (fs : Option Formals) (b : Block) → Closes (block_weighs b) → Closes (item_weighs (item.Member at result n fs b))
+closes-member at result n fs b closes w = closes-then (bracketed (any_formals fs)) (block_weighs b) (closes-bracketed (any_formals fs) (closes-formals fs)) closes w
+
+-- ---- declarations
+
+pub light-class : (at : At) (line : ℕ) (kind : Kind) (n : Name) (items : List Item) → AllClose item_weighs items → is_light_declaration (declaration.Class at line kind n items) ≡ list_all is_light_item items
+light-class at line kind n items c =
+    let inner = in_order (map item_weighs items) in
+    let closes = closes-in_order item_weighs items c in
+    light-then (bracketed inner) plain 0 (closes-bracketed inner closes)
+    ∙ and-true _
+    ∙ light-bracketed inner 0 closes refl refl
+    ∙ light-in_order item_weighs 1 items c
+
+pub closes-class : (at : At) (line : ℕ) (kind : Kind) (n : Name) (items : List Item) → AllClose item_weighs items → Closes (declaration_weighs (declaration.Class at line kind n items))
+closes-class at line kind n items c w = closes-bracketed (in_order (map item_weighs items)) (closes-in_order item_weighs items c) w
+
+pub light-main : (at : At) (t : TypeName) (n : Name) (b : Block) → is_light_declaration (declaration.Function at t n None b) ≡ is_light_block 0 b
+light-main at t n b = refl
+
+pub closes-main : (at : At) (t : TypeName) (n : Name) (b : Block) → Closes (block_weighs b) → Closes (declaration_weighs (declaration.Function at t n None b))
+closes-main at t n b closes w = closes w
+
+pub light-program : (p : Program) → AllClose declaration_weighs p.declarations → is_light p ≡ list_all is_light_declaration p.declarations
+light-program p c = light-in_order declaration_weighs 0 p.declarations c

@@ -291,7 +291,6 @@ impl<'a> Reader<'a> {
         ensures light { IfOk result (λ a. list_all (is_light_flow 2) a ≡ true) }
         ensures leads { OnOk result (leads (stage.BeforeOperand Passed 0) self.old.left.now ≡ leads (stage.BehindExpression Passed) self.new.left.now) }
         ensures end { OnOk result (first_is (is_mark mark.Comma) self.new.left.now ≡ false) }
-        ensures some { IfOk result (λ a. 0 < length a) }
         ensures unfit { result ≡ Err ParseFault.Unfit → leads (stage.BeforeOperand Passed 0) self.old.left.now ≡ false }
         ensures room { OnOk result (numbered 12 (rest_of self.new) ≤ numbered 12 (rest_of self.old)) }
     {

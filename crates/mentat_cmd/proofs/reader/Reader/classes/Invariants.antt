@@ -1,0 +1,19 @@
+use Rattle.std.proofs.Common.{◌≡◌, ◌≤◌, Some, map, length, true}
+use Rattle.std.specs.List.{list_all}
+use Rattle.mentat_cmd.specs.Parts.{is_light_declaration}
+use Rattle.mentat_cmd.specs.Reader.{rest_of, numbered}
+use Rattle.mpl_mean.specs.FirstForm.{is_class}
+use Rattle.mpl_mean.specs.ProgramText.{declaration_text}
+use Rattle.mpl_mean.specs.Reading.{each}
+use Rattle.mentat_cmd.proofs.reader.Reader.classes.Given as goal
+
+abbrev pub invariant-loop-alloc : goal.invariant-loop-alloc
+invariant-loop-alloc l = record {
+  text : each (map declaration_text l.classes) (rest_of l.fn.self) ≡ Some (rest_of l.self);
+  built : list_all is_class l.classes ≡ true;
+  light : list_all is_light_declaration l.classes ≡ true;
+  room : numbered 12 (rest_of l.self) ≤ numbered 12 (rest_of l.fn.self);
+}
+
+abbrev pub decreases-loop-alloc : goal.decreases-loop-alloc
+decreases-loop-alloc l = length l.self.left.now

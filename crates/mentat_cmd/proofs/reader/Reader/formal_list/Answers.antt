@@ -1,0 +1,27 @@
+use Rattle.std.proofs.Common.{◌≡◌, ◌∙◌, true, ap, sym, arith, Some, List, length}
+use Rattle.mentat_cmd.proofs.Parsed.{all-grown, reads-mark, separated-grown}
+use Rattle.mentat_cmd.specs.Reader.{rest_of}
+use Rattle.mpl_ast.specs.declared.class.Formal.{Formal}
+use Rattle.mpl_ast.specs.declared.token.Mark.TheVariants as mark_of
+use Rattle.mpl_ast.specs.declared.token.Token.{Token}
+use Rattle.mpl_mean.specs.FirstForm.{is_int}
+use Rattle.mpl_mean.specs.ProgramText.{formal_text}
+use Rattle.mpl_mean.specs.Reading.{mark}
+use Rattle.mentat_cmd.proofs.reader.Reader.formal_list.Goals as goal
+
+pub loop-alloc-preserved : goal.loop-alloc-preserved
+loop-alloc-preserved c =
+    let before = c.loop-alloc.formals in
+    let part = c.in_ok-formal.formal in
+    let grown = c.in_ok-push-2.ensures.ok in
+    let comma : mark mark_of.Comma (rest_of c.loop-alloc.self) ≡ Some (rest_of c.take.new.self) =
+    reads-mark mark_of.Comma c.take.result.now (rest_of c.loop-alloc.self) (rest_of c.take.new.self) c.take.ensures.tokens c.take.ensures.last c.take.ensures.next (sym c.sees_mark.ensures ∙ c.loop-alloc-test.true)
+    in
+    let shorter = ap (λ (ts : List Token). length ts) c.take.ensures.tokens in
+    record {
+      text = separated-grown formal_text before c.push-in-loop-alloc.new.self part (rest_of c.args.self.now) (rest_of c.loop-alloc.self) (rest_of c.take.new.self) (rest_of c.formal-in-loop-alloc.new.self)
+          grown c.loop-alloc.invariant.text comma c.in_ok-formal.ensures.text;
+      built = all-grown (λ (f : Formal). is_int f.type_name) before c.push-in-loop-alloc.new.self part grown c.loop-alloc.invariant.built c.in_ok-formal.ensures.built;
+      room = omega (arith, c.in_ok-formal.ensures.room);
+      shorter = omega (arith, c.in_ok-formal.ensures.shorter);
+    }

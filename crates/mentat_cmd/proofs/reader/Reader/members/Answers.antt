@@ -1,0 +1,27 @@
+use Rattle.std.proofs.Common.{◌≡◌, ◌∙◌, false, arith}
+use Rattle.mentat_cmd.proofs.Parsed.{all-grown, each-grown}
+use Rattle.mentat_cmd.proofs.Whole.{led-items}
+use Rattle.mentat_cmd.specs.Parts.{is_light_item}
+use Rattle.mentat_cmd.specs.Reader.{rest_of}
+use Rattle.mentat_cmd.specs.Stages.{InClass, leads}
+use Rattle.mpl_mean.specs.FirstForm.{is_first_item}
+use Rattle.mpl_mean.specs.ProgramText.{item_text}
+use Rattle.mentat_cmd.proofs.reader.Reader.members.Goals as goal
+
+pub loop-alloc-preserved : goal.loop-alloc-preserved
+loop-alloc-preserved c =
+    let before = c.loop-alloc.members in
+    let part = c.in_ok-member.member in
+    let grown = c.in_ok-push.ensures.ok in
+    record {
+      text = each-grown item_text before c.push.new.self part (rest_of c.args.self.now) (rest_of c.loop-alloc.self) (rest_of c.member.new.self)
+          grown c.loop-alloc.invariant.text c.in_ok-member.ensures.text;
+      built = all-grown is_first_item before c.push.new.self part grown c.loop-alloc.invariant.built c.in_ok-member.ensures.built;
+      light = all-grown is_light_item before c.push.new.self part grown c.loop-alloc.invariant.light c.in_ok-member.ensures.light;
+      room = omega (arith, c.in_ok-member.ensures.room);
+    }
+
+pub returns-in_err-member-clause-unfit : goal.returns-in_err-member-clause-unfit
+returns-in_err-member-clause-unfit c = λ unfit.
+    let failed : leads InClass c.loop-alloc.self.left.now ≡ false = grind arith in
+    led-items c.loop-alloc.members (rest_of c.args.self.now) (rest_of c.loop-alloc.self) c.loop-alloc.invariant.built c.loop-alloc.invariant.light c.loop-alloc.invariant.text ∙ failed

@@ -1,0 +1,19 @@
+use Rattle.std.proofs.Common.{◌≡◌, ◌≤◌, Some, map, length, true}
+use Rattle.std.specs.List.{list_all}
+use Rattle.mentat_cmd.specs.Parts.{is_light_item}
+use Rattle.mentat_cmd.specs.Reader.{rest_of, numbered}
+use Rattle.mpl_mean.specs.FirstForm.{is_first_item}
+use Rattle.mpl_mean.specs.ProgramText.{item_text}
+use Rattle.mpl_mean.specs.Reading.{each}
+use Rattle.mentat_cmd.proofs.reader.Reader.members.Given as goal
+
+abbrev pub invariant-loop-alloc : goal.invariant-loop-alloc
+invariant-loop-alloc l = record {
+  text : each (map item_text l.members) (rest_of l.fn.self) ≡ Some (rest_of l.self);
+  built : list_all is_first_item l.members ≡ true;
+  light : list_all is_light_item l.members ≡ true;
+  room : numbered 12 (rest_of l.self) ≤ numbered 12 (rest_of l.fn.self);
+}
+
+abbrev pub decreases-loop-alloc : goal.decreases-loop-alloc
+decreases-loop-alloc l = length l.self.left.now
