@@ -1,0 +1,1 @@
+-- The same of classes and programs.
