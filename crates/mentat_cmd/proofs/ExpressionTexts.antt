@@ -5,14 +5,17 @@ use Rattle.mpl_ast.specs.declared.expression.Equality.{Equality, fold-Equality, 
 use Rattle.mpl_ast.specs.declared.expression.Expression.{Expression, fold-roll-Expression}
 use Rattle.mpl_ast.specs.declared.expression.Relation.{Relation, fold-Relation, fold-roll-Relation}
 use Rattle.mpl_ast.specs.declared.expression.Sum.{Sum, fold-roll-Sum}
-use Rattle.mpl_ast.specs.declared.expression.Term.{Term}
-use Rattle.mpl_ast.specs.declared.expression.Conjunction.TheOpen.{Conjunction-F, Equality-F, Expression-F, Relation-F, Sum-F}
+use Rattle.mpl_ast.specs.declared.expression.Term.{Term, fold-roll-Term}
+use Rattle.mpl_ast.specs.declared.expression.Conjunction.TheOpen.{Conjunction-F, Equality-F, Expression-F, Relation-F, Sum-F, Term-F}
 use Rattle.mpl_ast.specs.declared.expression.Conjunction.TheVariants as conjunction
 use Rattle.mpl_ast.specs.declared.expression.Equality.TheVariants as equality
 use Rattle.mpl_ast.specs.declared.expression.Expression.TheVariants as expression
 use Rattle.mpl_ast.specs.declared.expression.Relation.TheVariants as relation
 use Rattle.mpl_ast.specs.declared.expression.Sum.TheVariants as sum
 use Rattle.mpl_ast.specs.declared.expression.SumOperator.{SumOperator}
+use Rattle.mpl_ast.specs.declared.expression.Term.TheVariants as term
+use Rattle.mpl_ast.specs.declared.expression.TermOperator.{TermOperator}
+use Rattle.mpl_ast.specs.declared.expression.Unary.{Unary}
 use Rattle.mpl_ast.specs.declared.flow.Flow.{Flow, fold-roll-Flow}
 use Rattle.mpl_ast.specs.declared.flow.Flow.TheVariants as flow
 use Rattle.mpl_ast.specs.declared.flow.Call.TheOpen.{Flow-F}
@@ -28,7 +31,7 @@ use Rattle.mpl_mean.specs.StatementText as statements
 use Rattle.mpl_mean.specs.StatementText.{flow_text}
 use Rattle.mpl_mean.specs.Weight as weight
 use Rattle.mpl_mean.specs.Weight.{Weighs, expression_weighs, flow_weighs}
-use Rattle.mentat_cmd.specs.Parts.{sum_text, term_text}
+use Rattle.mentat_cmd.specs.Parts.{sum_text, term_text, unary_text}
 use Rattle.mentat_cmd.specs.Reader.{starts, at_of}
 use Rattle.mentat_cmd.specs.declared.reader.Start.{Start}
 
@@ -67,7 +70,18 @@ pub record Begins (s : Start) (r x : Rest) : Type 0 where
 pub reads-begun : (s : Start) (parts : Reads) (r m x : Rest) → Begins s r m → parts m ≡ Some x → node (at_of s x.last) parts r ≡ Some x
 reads-begun s parts r m x b h = reads-node s parts r x b.id b.first (subst (λ y. parts y ≡ Some x) b.after h)
 
--- ---- sums
+pub reads-joined : (s : Start) (a b : Reads) (line : ℕ) (o : Mark) (r m y z x : Rest) → Begins s r m → a m ≡ Some y → mark_on line o y ≡ Some z → b z ≡ Some x → node (at_of s x.last) (a >> mark_on line o >> b) r ≡ Some x
+reads-joined s a b line o r m y z x begin e f g =
+    reads-begun s (a >> mark_on line o >> b) r m x begin (reads-both a (mark_on line o >> b) m y x e (reads-both (mark_on line o) b y z x f g))
+
+-- ---- products and sums
+
+term_text-multiply : (at : At) (line : ℕ) (t : Term) (o : TermOperator) (u : Unary) → term_text (term.Multiply at line t o u) ≡ node at (term_text t >> mark_on line (text.term_mark o) >> unary_text u)
+term_text-multiply at line t o u = ap term_text (sym (term.rolls-Multiply at line t o u)) ∙ fold-roll-Term Reads Reads Reads Reads Reads Reads Reads Reads Reads text.conjunction_step text.equality_step text.expression_step text.place_step text.primary_step text.relation_step text.sum_step text.term_step text.unary_step (Term-F.Multiply at line t o u)
+
+pub reads-multiply : (at : Start) (line : ℕ) (t : Term) (o : TermOperator) (u : Unary) (r m y z x : Rest) → Begins at r m → term_text t m ≡ Some y → mark_on line (text.term_mark o) y ≡ Some z → unary_text u z ≡ Some x → term_text (term.Multiply (at_of at x.last) line t o u) r ≡ Some x
+reads-multiply at line t o u r m y z x begin e f g =
+    ap (λ (y : Reads). y r) (term_text-multiply (at_of at x.last) line t o u) ∙ reads-joined at (term_text t) (unary_text u) line (text.term_mark o) r m y z x begin e f g
 
 sum_text-one : (at : At) (t : Term) → sum_text (sum.OneTerm at t) ≡ node at (term_text t)
 sum_text-one at t = ap sum_text (sym (sum.rolls-OneTerm at t)) ∙ fold-roll-Sum Reads Reads Reads Reads Reads Reads Reads Reads Reads text.conjunction_step text.equality_step text.expression_step text.place_step text.primary_step text.relation_step text.sum_step text.term_step text.unary_step (Sum-F.OneTerm at t)
@@ -75,17 +89,12 @@ sum_text-one at t = ap sum_text (sym (sum.rolls-OneTerm at t)) ∙ fold-roll-Sum
 sum_text-add : (at : At) (line : ℕ) (s : Sum) (o : SumOperator) (t : Term) → sum_text (sum.Add at line s o t) ≡ node at (sum_text s >> mark_on line (text.sum_mark o) >> term_text t)
 sum_text-add at line s o t = ap sum_text (sym (sum.rolls-Add at line s o t)) ∙ fold-roll-Sum Reads Reads Reads Reads Reads Reads Reads Reads Reads text.conjunction_step text.equality_step text.expression_step text.place_step text.primary_step text.relation_step text.sum_step text.term_step text.unary_step (Sum-F.Add at line s o t)
 
-pub reads-one_term : (at : Start) (t : Term) (r m x : Rest) → at.id ≡ r.next → starts at r.tokens ≡ true → m ≡ record r { next = r.next + 1 } → term_text t m ≡ Some x → sum_text (sum.OneTerm (at_of at x.last) t) r ≡ Some x
-reads-one_term at t r m x e f i h =
-    ap (λ (y : Reads). y r) (sum_text-one (at_of at x.last) t) ∙ reads-node at (term_text t) r x e f (subst (λ y. term_text t y ≡ Some x) i h)
+pub reads-one_term : (at : Start) (t : Term) (r m x : Rest) → Begins at r m → term_text t m ≡ Some x → sum_text (sum.OneTerm (at_of at x.last) t) r ≡ Some x
+reads-one_term at t r m x begin h = ap (λ (y : Reads). y r) (sum_text-one (at_of at x.last) t) ∙ reads-begun at (term_text t) r m x begin h
 
-pub reads-add : (at : Start) (line : ℕ) (s : Sum) (o : SumOperator) (t : Term) (r m y z x : Rest) → at.id ≡ r.next → starts at r.tokens ≡ true → m ≡ record r { next = r.next + 1 } → sum_text s m ≡ Some y → mark_on line (text.sum_mark o) y ≡ Some z → term_text t z ≡ Some x → sum_text (sum.Add (at_of at x.last) line s o t) r ≡ Some x
-reads-add at line s o t r m y z x e f i h g j =
-    ap (λ (y : Reads). y r) (sum_text-add (at_of at x.last) line s o t)
-    ∙ reads-node at (sum_text s >> mark_on line (text.sum_mark o) >> term_text t) r x e f
-    (subst (λ k. (sum_text s >> mark_on line (text.sum_mark o) >> term_text t) k ≡ Some x) i
-    (reads-both (sum_text s) (mark_on line (text.sum_mark o) >> term_text t) m y x h
-    (reads-both (mark_on line (text.sum_mark o)) (term_text t) y z x g j)))
+pub reads-add : (at : Start) (line : ℕ) (s : Sum) (o : SumOperator) (t : Term) (r m y z x : Rest) → Begins at r m → sum_text s m ≡ Some y → mark_on line (text.sum_mark o) y ≡ Some z → term_text t z ≡ Some x → sum_text (sum.Add (at_of at x.last) line s o t) r ≡ Some x
+reads-add at line s o t r m y z x begin e f g =
+    ap (λ (y : Reads). y r) (sum_text-add (at_of at x.last) line s o t) ∙ reads-joined at (sum_text s) (term_text t) line (text.sum_mark o) r m y z x begin e f g
 
 -- ---- the nodes around a sum
 

@@ -39,7 +39,7 @@ impl Role {
     /// The most operators: an expression weighs as much as the brackets around it, and one more for each
     /// operator, and no token may weigh more than 64.
     fn most_operators(self) -> usize
-        ensures { result ≡ stage.most_operators self.now }
+        ensures { result ≡ stage.most_operators self }
     {
         match self {
             Role::Printed | Role::Passed => 62,
@@ -54,9 +54,9 @@ impl<'a> Reader<'a> {
         requires room { numbered 11 (rest_of self.old) < 2 ^ 31 }
         ensures text { IfOk result (λ e. expression_text e (rest_of self.old) ≡ Some (rest_of self.new)) }
         ensures built { IfOk result (λ e. is_first_expression e ≡ true) }
-        ensures light { IfOk result (λ e. is_light_expression (stage.brackets role.now) e ≡ true) }
-        ensures leads { OnOk result (leads (stage.BeforeOperand role.now 0) self.old.left.now ≡ leads (stage.BehindExpression role.now) self.new.left.now) }
-        ensures unfit { result ≡ Err ParseFault.Unfit → leads (stage.BeforeOperand role.now 0) self.old.left.now ≡ false }
+        ensures light { IfOk result (λ e. is_light_expression (stage.brackets role) e ≡ true) }
+        ensures leads { OnOk result (leads (stage.BeforeOperand role 0) self.old.left.now ≡ leads (stage.BehindExpression role) self.new.left.now) }
+        ensures unfit { result ≡ Err ParseFault.Unfit → leads (stage.BeforeOperand role 0) self.old.left.now ≡ false }
         ensures room { OnOk result (numbered 12 (rest_of self.new) + 2 ≤ numbered 12 (rest_of self.old)) }
         ensures shorter { OnOk result (length self.new.left.now < length self.old.left.now) }
     {
@@ -83,9 +83,9 @@ impl<'a> Reader<'a> {
         requires room { numbered 12 (rest_of self.old) < 2 ^ 31 }
         ensures text { IfOk result (λ f. flow_text f (rest_of self.old) ≡ Some (rest_of self.new)) }
         ensures built { IfOk result (λ f. is_first_flow f ≡ true) }
-        ensures light { IfOk result (λ f. Light (flow_weighs f) (stage.brackets role.now)) }
-        ensures leads { OnOk result (leads (stage.BeforeOperand role.now 0) self.old.left.now ≡ leads (stage.BehindExpression role.now) self.new.left.now) }
-        ensures unfit { result ≡ Err ParseFault.Unfit → leads (stage.BeforeOperand role.now 0) self.old.left.now ≡ false }
+        ensures light { IfOk result (λ f. Light (flow_weighs f) (stage.brackets role)) }
+        ensures leads { OnOk result (leads (stage.BeforeOperand role 0) self.old.left.now ≡ leads (stage.BehindExpression role) self.new.left.now) }
+        ensures unfit { result ≡ Err ParseFault.Unfit → leads (stage.BeforeOperand role 0) self.old.left.now ≡ false }
         ensures room { OnOk result (numbered 12 (rest_of self.new) ≤ numbered 12 (rest_of self.old)) }
         ensures shorter { OnOk result (length self.new.left.now < length self.old.left.now) }
     {

@@ -20,7 +20,7 @@ term-requires-clause-room t c =
 pub returns-then-operators-eq0-clause-text : goal.returns-then-operators-eq0-clause-text
 returns-then-operators-eq0-clause-text t c =
     rw c.finish.ensures (reads-one_term c.start-start.result c.in_ok-term.term (rest_of c.args.self.now) (rest_of c.start-start.new.self) (rest_of c.term.new.self)
-    c.start-start.ensures.id c.start-start.ensures.first c.start-start.ensures.after c.in_ok-term.ensures.text)
+    (record { id = c.start-start.ensures.id; first = c.start-start.ensures.first; after = c.start-start.ensures.after }) c.in_ok-term.ensures.text)
 
 pub term-requires-2-clause-room : goal.term-requires-2-clause-room
 term-requires-2-clause-room t c =
@@ -50,7 +50,7 @@ returns-clause-text t c =
     ] in
     rw c.finish-2.ensures (reads-add c.start-start.result o.line c.in_ok-left.left c.if-has_mark.operator c.in_ok-right.right (rest_of c.args.self.now)
     (rest_of c.start-start.new.self) (rest_of c.sum.new.self) (rest_of c.take-token.new.self) (rest_of c.term-2.new.self)
-    c.start-start.ensures.id c.start-start.ensures.first c.start-start.ensures.after
+    (record { id = c.start-start.ensures.id; first = c.start-start.ensures.first; after = c.start-start.ensures.after })
     (subst (λ (s : Sum). sum_text s (rest_of c.start-start.new.self) ≡ Some (rest_of c.sum.new.self)) (sym c.in_ok-left.ensures) c.in_ok-sum.ensures.text)
     (reads-mark_on (sum_mark c.if-has_mark.operator) o (rest_of c.sum.new.self) (rest_of c.take-token.new.self) c.take-token.ensures.tokens c.take-token.ensures.last c.take-token.ensures.next is_there)
     c.in_ok-right.ensures.text)

@@ -1,0 +1,11 @@
+use Rattle.std.proofs.Common.{◌≡◌, ◌∙◌, ap, sym, arith}
+use Rattle.mpl_mean.specs.Reading.{Rest}
+use Rattle.mentat_cmd.specs.Reader.{rest_of, numbered}
+use Rattle.mentat_cmd.specs.Stages.{BeforeOperand, leads}
+use Rattle.mentat_cmd.proofs.ExpressionTexts.{reads-flow, flow_weighs-expression, is_first_flow-expression}
+use Rattle.mentat_cmd.proofs.Operands.{leads-no_operand}
+use Rattle.mentat_cmd.proofs.reader.Reader.flow.Goals as goal
+
+pub returns-then-not-sees_operand-clause-unfit : goal.returns-then-not-sees_operand-clause-unfit
+returns-then-not-sees_operand-clause-unfit c = λ _.
+    leads-no_operand c.args.role 0 c.args.self.now.left.now (sym c.sees_operand.ensures ∙ c.if-not-sees_operand.true)
