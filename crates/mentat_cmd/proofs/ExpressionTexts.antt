@@ -16,7 +16,7 @@ use Rattle.mpl_ast.specs.declared.expression.SumOperator.{SumOperator}
 use Rattle.mpl_ast.specs.declared.expression.Term.TheVariants as term
 use Rattle.mpl_ast.specs.declared.expression.TermOperator.{TermOperator}
 use Rattle.mpl_ast.specs.declared.expression.Unary.{Unary}
-use Rattle.mpl_ast.specs.declared.flow.Flow.{Flow, fold-roll-Flow}
+use Rattle.mpl_ast.specs.declared.flow.Flow.{fold-roll-Flow}
 use Rattle.mpl_ast.specs.declared.flow.Flow.TheVariants as flow
 use Rattle.mpl_ast.specs.declared.flow.Call.TheOpen.{Flow-F}
 use Rattle.mpl_ast.specs.declared.place.At.{At}
@@ -147,6 +147,3 @@ flow_weighs-expression at e =
 pub is_first_flow-expression : (at : At) (e : Expression) → is_first_flow (flow.OfExpression at e) ≡ is_first_expression e
 is_first_flow-expression at e =
     ap is_first_flow (sym (flow.rolls-OfExpression at e)) ∙ fold-roll-Flow Bool Bool form.call_step form.flow_step (Flow-F.OfExpression at e)
-
-pub reads-flow : (s : Start) (e : Expression) (r m x : Rest) → Begins s r m → expression_text e m ≡ Some x → flow_text (flow.OfExpression (at_of s x.last) e) r ≡ Some x
-reads-flow s e r m x b h = ap (λ (y : Reads). y r) (flow_text-expression (at_of s x.last) e) ∙ reads-begun s (expression_text e) r m x b h

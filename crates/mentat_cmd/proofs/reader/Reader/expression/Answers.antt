@@ -55,25 +55,25 @@ returns-then-operators-most_operators-clause-unfit c = λ _.
 pub returns-clause-light : goal.returns-clause-light
 returns-clause-light c =
     let p = sum-read c.args.role c.start-expression.result c.start-conjunction.result c.start-equality.result c.start-relation.result c.in_ok-sum.sum c.operators_ahead-operators.result.sums
-        (rest_of c.args.self.now) (rest_of c.start-expression.new.self) (rest_of c.start-conjunction.new.self) (rest_of c.start-equality.new.self) (rest_of c.start-relation.new.self) (rest_of c.sum.new.self)
-        (record { id = c.start-expression.ensures.id; first = c.start-expression.ensures.first; after = c.start-expression.ensures.after })
-        (record { id = c.start-conjunction.ensures.id; first = c.start-conjunction.ensures.first; after = c.start-conjunction.ensures.after })
-        (record { id = c.start-equality.ensures.id; first = c.start-equality.ensures.first; after = c.start-equality.ensures.after })
-        (record { id = c.start-relation.ensures.id; first = c.start-relation.ensures.first; after = c.start-relation.ensures.after })
-        c.in_ok-sum.ensures.text c.in_ok-sum.ensures.built c.operators_ahead-operators.ensures.sums c.in_ok-sum.ensures.sums c.in_ok-sum.ensures.products
-        (omega (arith, c.operators_ahead-operators.ensures.all, c.most_operators.ensures, c.if-operators-most_operators.false))
+    (rest_of c.args.self.now) (rest_of c.start-expression.new.self) (rest_of c.start-conjunction.new.self) (rest_of c.start-equality.new.self) (rest_of c.start-relation.new.self) (rest_of c.sum.new.self)
+    (record { id = c.start-expression.ensures.id; first = c.start-expression.ensures.first; after = c.start-expression.ensures.after })
+    (record { id = c.start-conjunction.ensures.id; first = c.start-conjunction.ensures.first; after = c.start-conjunction.ensures.after })
+    (record { id = c.start-equality.ensures.id; first = c.start-equality.ensures.first; after = c.start-equality.ensures.after })
+    (record { id = c.start-relation.ensures.id; first = c.start-relation.ensures.first; after = c.start-relation.ensures.after })
+    c.in_ok-sum.ensures.text c.in_ok-sum.ensures.built c.operators_ahead-operators.ensures.sums c.in_ok-sum.ensures.sums c.in_ok-sum.ensures.products
+    (omega (arith, c.operators_ahead-operators.ensures.all, c.most_operators.ensures, c.if-operators-most_operators.false))
     in
     rw (c.finish-4.ensures, c.finish-3.ensures, c.finish-2.ensures, c.finish.ensures) p.0
 
 pub returns-clause-leads : goal.returns-clause-leads
 returns-clause-leads c =
     let p = sum-read c.args.role c.start-expression.result c.start-conjunction.result c.start-equality.result c.start-relation.result c.in_ok-sum.sum c.operators_ahead-operators.result.sums
-        (rest_of c.args.self.now) (rest_of c.start-expression.new.self) (rest_of c.start-conjunction.new.self) (rest_of c.start-equality.new.self) (rest_of c.start-relation.new.self) (rest_of c.sum.new.self)
-        (record { id = c.start-expression.ensures.id; first = c.start-expression.ensures.first; after = c.start-expression.ensures.after })
-        (record { id = c.start-conjunction.ensures.id; first = c.start-conjunction.ensures.first; after = c.start-conjunction.ensures.after })
-        (record { id = c.start-equality.ensures.id; first = c.start-equality.ensures.first; after = c.start-equality.ensures.after })
-        (record { id = c.start-relation.ensures.id; first = c.start-relation.ensures.first; after = c.start-relation.ensures.after })
-        c.in_ok-sum.ensures.text c.in_ok-sum.ensures.built c.operators_ahead-operators.ensures.sums c.in_ok-sum.ensures.sums c.in_ok-sum.ensures.products
-        (omega (arith, c.operators_ahead-operators.ensures.all, c.most_operators.ensures, c.if-operators-most_operators.false))
+    (rest_of c.args.self.now) (rest_of c.start-expression.new.self) (rest_of c.start-conjunction.new.self) (rest_of c.start-equality.new.self) (rest_of c.start-relation.new.self) (rest_of c.sum.new.self)
+    (record { id = c.start-expression.ensures.id; first = c.start-expression.ensures.first; after = c.start-expression.ensures.after })
+    (record { id = c.start-conjunction.ensures.id; first = c.start-conjunction.ensures.first; after = c.start-conjunction.ensures.after })
+    (record { id = c.start-equality.ensures.id; first = c.start-equality.ensures.first; after = c.start-equality.ensures.after })
+    (record { id = c.start-relation.ensures.id; first = c.start-relation.ensures.first; after = c.start-relation.ensures.after })
+    c.in_ok-sum.ensures.text c.in_ok-sum.ensures.built c.operators_ahead-operators.ensures.sums c.in_ok-sum.ensures.sums c.in_ok-sum.ensures.products
+    (omega (arith, c.operators_ahead-operators.ensures.all, c.most_operators.ensures, c.if-operators-most_operators.false))
     in
     p.1

@@ -1,8 +1,4 @@
-use Rattle.std.proofs.Common.{◌≡◌, ◌∙◌, ap, sym, arith}
-use Rattle.mpl_mean.specs.Reading.{Rest}
-use Rattle.mentat_cmd.specs.Reader.{rest_of, numbered}
-use Rattle.mentat_cmd.specs.Stages.{BeforeOperand, leads}
-use Rattle.mentat_cmd.proofs.ExpressionTexts.{reads-flow, flow_weighs-expression, is_first_flow-expression}
+use Rattle.std.proofs.Common.{◌∙◌, sym}
 use Rattle.mentat_cmd.proofs.Operands.{leads-no_operand}
 use Rattle.mentat_cmd.proofs.reader.Reader.flow.Goals as goal
 
