@@ -74,12 +74,3 @@ pub is_first_call-target : (at : At) (t : Target) (n : Name) (fs : List Flow) �
 is_first_call-target at t n fs =
     let layer : is_first_call (call.OnTarget at t n fs) ≡ (is_variable t && list_all (λ b. b) (map is_first_flow fs)) = search (rules, call.the_lemmas) in
     layer ∙ ap (λ b. is_variable t && b) (all_first fs)
-
-pub flow_text-expression : (at : At) (e : Expression) → flow_text (flow.OfExpression at e) ≡ node at (expression_text e)
-flow_text-expression at e = search (rules, flow.the_lemmas)
-
-pub flow_weighs-expression : (at : At) (e : Expression) → flow_weighs (flow.OfExpression at e) ≡ expression_weighs e
-flow_weighs-expression at e = search (rules, flow.the_lemmas)
-
-pub is_first_flow-expression : (at : At) (e : Expression) → is_first_flow (flow.OfExpression at e) ≡ is_first_expression e
-is_first_flow-expression at e = search (rules, flow.the_lemmas)

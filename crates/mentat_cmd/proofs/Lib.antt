@@ -1,13 +1,17 @@
 mod AnswerLemmas
 pub mod Chains
 pub mod Closing
+pub mod ExpressionTexts
 pub mod Forms
 pub mod Layers
 pub mod Leading
 pub mod Led
 pub mod Lookahead
+pub mod Operands
 mod OutputLemmas
 pub mod Parsed
 pub mod Steps
 pub mod Turns
 pub mod Weights
+pub mod Whole
+pub mod WholeClasses

@@ -1,21 +1,54 @@
--- A list of parts that were read, and one more behind it.
-use Rattle.std.proofs.Common.{◌≡◌, ℕ, ◌+◌, Bool, true, false, ◌&&◌, ◌==◌, List, [], ◌∷◌, ◌++◌, map, Some, None, if◌then◌else◌, refl, ap, sym, ◌∙◌, subst}
+-- Parts that were read one after another, and the node around them.
+use Rattle.std.proofs.Common.{◌≡◌, ℕ, ◌+◌, Bool, true, false, ◌&&◌, ◌==◌, List, [], ◌∷◌, ◌++◌, map, Some, None, if◌then◌else◌, refl, ap, sym, ◌∙◌, subst, eq-eqb}
 use Rattle.std.specs.List.{list_all}
 use Rattle.mpl_ast.specs.declared.token.Mark.{Mark}
 use Rattle.mpl_ast.specs.declared.token.Mark.TheVariants as mark_of
 use Rattle.mpl_ast.specs.declared.token.Token.{Token}
-use Rattle.mpl_mean.specs.Reading.{Reads, Rest, ◌>>◌, nothing, token, token_from, mark, mark_on, is_mark, each, separated, after_first}
+use Rattle.mpl_mean.specs.Reading.{Reads, Rest, ◌>>◌, nothing, node, begins, token, token_from, mark, mark_on, is_mark, each, separated, after_first}
 use Rattle.mentat_cmd.specs.Ahead.{first_is}
+use Rattle.mentat_cmd.specs.Reader.{starts, at_of}
+use Rattle.mentat_cmd.specs.declared.reader.Start.{Start}
 use Rattle.mentat_cmd.proofs.Steps.{both_read, and_true, if_some}
+
+-- ---- one token, one after another, and a node around them
 
 pub reads-token : (test : Token → Bool) (t : Token) (r x : Rest) → r.tokens ≡ t ∷ x.tokens → x.last ≡ t.span.to → x.next ≡ r.next → test t ≡ true → token test r ≡ Some x
 reads-token test t r x e f g h = rw (e, h, ← f, ← g) refl
 
-pub reads-mark : (m : Mark) (t : Token) (r x : Rest) → r.tokens ≡ t ∷ x.tokens → x.last ≡ t.span.to → x.next ≡ r.next → first_is (is_mark m) r.tokens ≡ true → mark m r ≡ Some x
-reads-mark m t r x e f g h = reads-token (λ o. is_mark m o.kind) t r x e f g (sym (ap (first_is (is_mark m)) e) ∙ h)
+same_line : (b : Bool) (n : ℕ) → b ≡ true → (b && (n == n)) ≡ true
+same_line true n h = eq-eqb n n refl
+same_line false n h = h
+
+pub reads-mark_on : (m : Mark) (t : Token) (r x : Rest) → r.tokens ≡ t ∷ x.tokens → x.last ≡ t.span.to → x.next ≡ r.next → is_mark m t.kind ≡ true → mark_on t.line m r ≡ Some x
+reads-mark_on m t r x e f g h = reads-token _ t r x e f g (same_line (is_mark m t.kind) t.line h)
 
 pub reads-both : (a b : Reads) (r m x : Rest) → a r ≡ Some m → b m ≡ Some x → (a >> b) r ≡ Some x
 reads-both a b r m x e f = rw e f
+
+begins-starts : (s : Start) (to : ℕ) (ts : List Token) → starts s ts ≡ true → begins (at_of s to) ts ≡ true
+begins-starts s to [] h = h
+begins-starts s to (t ∷ ts) h = h
+
+if-both : (a b c : Bool) (r : Rest) → a ≡ true → b ≡ true → c ≡ true → (if a && b then (if c then Some r else None) else None) ≡ Some r
+if-both a b c r e f g = rw (e, f, g) refl
+
+pub reads-node : (s : Start) (parts : Reads) (r x : Rest) → s.id ≡ r.next → starts s r.tokens ≡ true → parts (record r { next = r.next + 1 }) ≡ Some x → node (at_of s x.last) parts r ≡ Some x
+reads-node s parts r x e f g =
+    rw g (if-both _ _ _ x (subst (λ n. (s.id == n) ≡ true) e (eq-eqb s.id s.id refl)) (begins-starts s x.last r.tokens f) (eq-eqb x.last x.last refl))
+
+-- a node begins here, and this is left behind its beginning
+pub record Begins (s : Start) (r x : Rest) : Type 0 where
+  pub id : s.id ≡ r.next
+  pub first : starts s r.tokens ≡ true
+  pub after : x ≡ record r { next = r.next + 1 }
+
+pub reads-begun : (s : Start) (parts : Reads) (r m x : Rest) → Begins s r m → parts m ≡ Some x → node (at_of s x.last) parts r ≡ Some x
+reads-begun s parts r m x b h = reads-node s parts r x b.id b.first (subst (λ y. parts y ≡ Some x) b.after h)
+
+-- ---- lists
+
+pub reads-mark : (m : Mark) (t : Token) (r x : Rest) → r.tokens ≡ t ∷ x.tokens → x.last ≡ t.span.to → x.next ≡ r.next → first_is (is_mark m) r.tokens ≡ true → mark m r ≡ Some x
+reads-mark m t r x e f g h = reads-token (λ o. is_mark m o.kind) t r x e f g (sym (ap (first_is (is_mark m)) e) ∙ h)
 
 each-more : (rs : List Reads) (a : Reads) (r m x : Rest) → each rs r ≡ Some m → a m ≡ Some x → each (rs ++ a ∷ []) r ≡ Some x
 each-more [] a r m x e f =

@@ -48,22 +48,23 @@ use Rattle.mentat_cmd.specs.declared.expression.Role.{Role}
 use Rattle.mentat_cmd.specs.declared.expression.Role.TheVariants.{Printed, Passed, Returned}
 use Rattle.mentat_cmd.proofs.Closing.{closes-flow, closes-flows, closes-first_call, closes-result_flow, closes-declarator, closes-first_local, closes-statements, closes-one_result, closes-items}
 use Rattle.mentat_cmd.proofs.Forms.{first_statement, result_statement, first_flow, call_flow, first_call}
-use Rattle.mentat_cmd.proofs.Layers.{statement_text-print, statement_text-declare, statement_text-rtf, is_first_statement-print, is_first_statement-declare, gives_result-rtf, flow_text-call, flow_text-expression, flow_weighs-expression, is_first_flow-expression, is_call-call, call_text-target, is_first_call-target}
+use Rattle.mentat_cmd.proofs.ExpressionTexts.{flow_text-expression, flow_weighs-expression, is_first_flow-expression}
+use Rattle.mentat_cmd.proofs.Layers.{statement_text-print, statement_text-declare, statement_text-rtf, is_first_statement-print, is_first_statement-declare, gives_result-rtf, flow_text-call, is_call-call, call_text-target, is_first_call-target}
 use Rattle.mentat_cmd.proofs.Leading.{mark_is, led-token, led-mark, led-mark_on, led-keyword, led-name, led-int, led-named}
-use Rattle.mentat_cmd.proofs.Operands.{led-expression, begins-expression}
+use Rattle.mentat_cmd.proofs.Chains.{led-expression, begins-expression}
 use Rattle.mentat_cmd.proofs.Steps.{parts_read, token_taken, both_read, and_true}
 use Rattle.mentat_cmd.proofs.Turns.{leads-some_arguments}
 use Rattle.mentat_cmd.proofs.Weights.{light-print, light-rtf, light-call, light-call_flow, light-one, light-declare, light-block, light-member, light-class}
 
 -- ---- lists
 
-stays : (s : Stage) (r x : Rest) → nothing r ≡ Some x → leads s r.tokens ≡ leads s x.tokens
+pub stays : (s : Stage) (r x : Rest) → nothing r ≡ Some x → leads s r.tokens ≡ leads s x.tokens
 stays s r x h =
     let e : r ≡ x = cc in
     ap (λ (y : Rest). leads s y.tokens) e
 
 -- parts that each lead back to their stage
-led-all : {A : Type 0} (p q : A → Bool) (f : A → Reads) (s : Stage) → ((x : A) (r z : Rest) → p x ≡ true → q x ≡ true → f x r ≡ Some z → leads s r.tokens ≡ leads s z.tokens) → (xs : List A) (r z : Rest) → list_all p xs ≡ true → list_all q xs ≡ true → each (map f xs) r ≡ Some z → leads s r.tokens ≡ leads s z.tokens
+pub led-all : {A : Type 0} (p q : A → Bool) (f : A → Reads) (s : Stage) → ((x : A) (r z : Rest) → p x ≡ true → q x ≡ true → f x r ≡ Some z → leads s r.tokens ≡ leads s z.tokens) → (xs : List A) (r z : Rest) → list_all p xs ≡ true → list_all q xs ≡ true → each (map f xs) r ≡ Some z → leads s r.tokens ≡ leads s z.tokens
 led-all p q f s one [] r z b l h = stays s r z h
 led-all p q f s one (x ∷ xs) r z b l h =
     let bs = and_true (p x) (list_all p xs) b in
@@ -75,7 +76,7 @@ led-all p q f s one (x ∷ xs) r z b l h =
 abbrev pub Stops : List Token → Type 0
 Stops ts = first_is is_operator ts ≡ false
 
-stops-mark : (k : Mark) (r x : Rest) → is_operator (kind.Mark k) ≡ false → mark k r ≡ Some x → Stops r.tokens
+pub stops-mark : (k : Mark) (r x : Rest) → is_operator (kind.Mark k) ≡ false → mark k r ≡ Some x → Stops r.tokens
 stops-mark k r x e h =
     let p = token_taken (λ o. is_mark k o.kind) r.tokens r.next x h in
     ap (first_is is_operator) p.1 ∙ ap (λ z. is_operator z) (mark_is k p.0.kind p.2) ∙ e
