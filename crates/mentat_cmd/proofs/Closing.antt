@@ -58,7 +58,7 @@ closes-result_flow f h = call_flow (λ g. is_call (out-Flow g) ≡ true → Clos
 int-and : (a b : Bool) → (a && b) ≡ true → b ≡ true
 int-and a b h = (and_true a b h).1
 
-closes-declarator : (t : TypeName) (d : Declarator) → is_first_declarator t d ≡ true → Closes (declarator_weighs d)
+pub closes-declarator : (t : TypeName) (d : Declarator) → is_first_declarator t d ≡ true → Closes (declarator_weighs d)
 closes-declarator t (declarator.Plain at n None) h w = refl
 closes-declarator t (declarator.Plain at n (Some dimension)) h w = absurd cc
 closes-declarator t (declarator.Initialized at n f) h w = closes-result_flow f (int-and _ _ h) w

@@ -1,5 +1,5 @@
 -- The tree of an expression reads what its parts read, one after another.
-use Rattle.std.proofs.Common.{◌≡◌, ℕ, Some, ap, sym, ◌∙◌}
+use Rattle.std.proofs.Common.{◌≡◌, ℕ, Bool, Some, ap, sym, ◌∙◌}
 use Rattle.mpl_ast.specs.declared.expression.Conjunction.{Conjunction, fold-Conjunction, fold-roll-Conjunction}
 use Rattle.mpl_ast.specs.declared.expression.Equality.{Equality, fold-Equality, fold-roll-Equality}
 use Rattle.mpl_ast.specs.declared.expression.Expression.{Expression, fold-roll-Expression}

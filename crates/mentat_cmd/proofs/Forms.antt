@@ -16,6 +16,7 @@ use Rattle.mpl_ast.specs.declared.statement.Statement.{Statement, ind-Statement,
 use Rattle.mpl_ast.specs.declared.statement.Statement.TheOpen.{Statement-F}
 use Rattle.mpl_ast.specs.declared.statement.Statement.TheVariants as statement
 use Rattle.mpl_mean.specs.FirstForm as first
+use Rattle.mentat_cmd.proofs.Layers.{is_call-expression}
 use Rattle.mpl_mean.specs.FirstForm.{gives_result, is_call, is_first_call, is_first_flow, is_first_statement}
 
 never : {A : Type 0} (b : Bool) → b ≡ false → b ≡ true → A
@@ -68,9 +69,7 @@ first_flow P p = ind-Flow (λ c. Unit {0}) (λ f. is_first_flow f ≡ true → P
 
 call_flow-layer : (P : Flow → Type 0) → ((at : At) (c : Call) → P (flow.OfCall at c)) → (x : Flow-F Call Flow) → is_call (out-Flow (roll-Flow x)) ≡ true → P (roll-Flow x)
 call_flow-layer P p (Flow-F.OfCall at c) h = subst P (sym (flow.rolls-OfCall at c)) (p at c)
-call_flow-layer P p (Flow-F.OfExpression at e) h = never _ (no_call at e) h where
-  no_call : (at : At) (e : Expression) → is_call (out-Flow (roll-Flow (Flow-F.OfExpression at e))) ≡ false
-  no_call at e = simp
+call_flow-layer P p (Flow-F.OfExpression at e) h = never _ (is_call-expression at e) (subst (λ f. is_call (out-Flow f) ≡ true) (flow.rolls-OfExpression at e) h)
 
 pub call_flow : (P : Flow → Type 0) → ((at : At) (c : Call) → P (flow.OfCall at c)) → (f : Flow) → is_call (out-Flow f) ≡ true → P f
 call_flow P p = ind-Flow (λ c. Unit {0}) (λ f. is_call (out-Flow f) ≡ true → P f) (λ x y is. tt) (λ x y is. call_flow-layer P p x)

@@ -1,5 +1,5 @@
 -- What is said of a statement or a call, by what is said of its parts.
-use Rattle.std.proofs.Common.{◌≡◌, ◌&&◌, Bool, List, [], ◌∷◌, map, refl, rules, ap, sym, ◌∙◌}
+use Rattle.std.proofs.Common.{◌≡◌, ◌&&◌, Bool, false, List, [], ◌∷◌, map, refl, rules, ap, sym, ◌∙◌}
 use Rattle.std.specs.List.{list_all}
 use Rattle.mpl_ast.specs.declared.expression.Expression.{Expression}
 use Rattle.mpl_ast.specs.declared.expression.Target.{Target}
@@ -59,6 +59,9 @@ flow_weighs-call at c = search (rules, flow.the_lemmas)
 
 pub is_call-call : (at : At) (c : Call) → is_call (out-Flow (flow.OfCall at c)) ≡ is_first_call c
 is_call-call at c = search (rules, flow.the_lemmas)
+
+pub is_call-expression : (at : At) (e : Expression) → is_call (out-Flow (flow.OfExpression at e)) ≡ false
+is_call-expression at e = search (rules, flow.the_lemmas)
 
 pub call_text-target : (at : At) (t : Target) (n : Name) (fs : List Flow) → call_text (call.OnTarget at t n fs) ≡ node at (target_text t >> mark m.Dot >> name n >> mark m.OpenParenthesis >> separated_if_any (map flow_text fs) >> mark m.CloseParenthesis)
 call_text-target at t n fs = search (rules, call.the_lemmas)

@@ -1,10 +1,11 @@
 -- Parts that were read one after another, and the node around them.
 use Rattle.std.proofs.Common.{◌≡◌, ℕ, ◌+◌, Bool, true, false, ◌&&◌, ◌==◌, List, [], ◌∷◌, ◌++◌, map, Some, None, if◌then◌else◌, refl, ap, sym, ◌∙◌, subst, eq-eqb}
 use Rattle.std.specs.List.{list_all}
+use Rattle.mpl_ast.specs.declared.token.Keyword.{Keyword}
 use Rattle.mpl_ast.specs.declared.token.Mark.{Mark}
 use Rattle.mpl_ast.specs.declared.token.Mark.TheVariants as mark_of
 use Rattle.mpl_ast.specs.declared.token.Token.{Token}
-use Rattle.mpl_mean.specs.Reading.{Reads, Rest, ◌>>◌, nothing, node, begins, token, token_from, mark, mark_on, is_mark, each, separated, after_first}
+use Rattle.mpl_mean.specs.Reading.{Reads, Rest, ◌>>◌, nothing, node, begins, token, token_from, mark, mark_on, keyword, is_mark, is_keyword, each, separated, after_first}
 use Rattle.mentat_cmd.specs.Ahead.{first_is}
 use Rattle.mentat_cmd.specs.Reader.{starts, at_of}
 use Rattle.mentat_cmd.specs.declared.reader.Start.{Start}
@@ -25,6 +26,12 @@ reads-mark_on m t r x e f g h = reads-token _ t r x e f g (same_line (is_mark m 
 pub reads-both : (a b : Reads) (r m x : Rest) → a r ≡ Some m → b m ≡ Some x → (a >> b) r ≡ Some x
 reads-both a b r m x e f = rw e f
 
+-- two of three that were read together
+pub reads-both_end : (a b c : Reads) (r m x : Rest) → (a >> b) r ≡ Some m → c m ≡ Some x → (a >> b >> c) r ≡ Some x
+reads-both_end a b c r m x e f =
+    let p = both_read a b r m e in
+    reads-both a (b >> c) r p.0 x p.1 (reads-both b c p.0 m x p.2 f)
+
 begins-starts : (s : Start) (to : ℕ) (ts : List Token) → starts s ts ≡ true → begins (at_of s to) ts ≡ true
 begins-starts s to [] h = h
 begins-starts s to (t ∷ ts) h = h
@@ -44,6 +51,9 @@ pub record Begins (s : Start) (r x : Rest) : Type 0 where
 
 pub reads-begun : (s : Start) (parts : Reads) (r m x : Rest) → Begins s r m → parts m ≡ Some x → node (at_of s x.last) parts r ≡ Some x
 reads-begun s parts r m x b h = reads-node s parts r x b.id b.first (subst (λ y. parts y ≡ Some x) b.after h)
+
+pub reads-keyword : (w : Keyword) (t : Token) (r x : Rest) → r.tokens ≡ t ∷ x.tokens → x.last ≡ t.span.to → x.next ≡ r.next → first_is (is_keyword w) r.tokens ≡ true → keyword w r ≡ Some x
+reads-keyword w t r x e f g h = reads-token (λ o. is_keyword w o.kind) t r x e f g (sym (ap (first_is (is_keyword w)) e) ∙ h)
 
 -- ---- lists
 

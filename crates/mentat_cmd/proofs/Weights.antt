@@ -28,7 +28,7 @@ use Rattle.mpl_ast.specs.declared.statement.Statement.{Statement}
 use Rattle.mpl_ast.specs.declared.statement.Statement as statement
 use Rattle.mpl_ast.specs.declared.statement.TypeName.{TypeName}
 use Rattle.mpl_mean.specs.FirstForm.{is_variable}
-use Rattle.mpl_mean.specs.Weight.{Weighs, ◌⨾◌, plain, bracketed, with_commas, each_after_comma, in_order, if_any, expression_weighs, flow_weighs, call_weighs, statement_weighs, block_weighs, declarator_weighs, local_weighs, formals_weighs, item_weighs, declaration_weighs, target_weighs, is_light}
+use Rattle.mpl_mean.specs.Weight.{Weighs, no_token, ◌⨾◌, plain, bracketed, with_commas, each_after_comma, in_order, if_any, expression_weighs, flow_weighs, call_weighs, statement_weighs, block_weighs, declarator_weighs, local_weighs, formals_weighs, item_weighs, declaration_weighs, target_weighs, is_light}
 use Rattle.mentat_cmd.specs.Parts.{all_light, is_light_expression, is_light_flow, is_light_call, is_light_declarator, is_light_local, is_light_statement, is_light_block, is_light_item, is_light_declaration}
 use Rattle.mentat_cmd.proofs.Layers.{statement_weighs-print, statement_weighs-declare, statement_weighs-rtf, flow_weighs-call, call_weighs-target}
 
@@ -240,7 +240,7 @@ pub light-main : (at : At) (t : TypeName) (n : Name) (b : Block) → is_light_de
 light-main at t n b = refl
 
 pub closes-main : (at : At) (t : TypeName) (n : Name) (b : Block) → Closes (block_weighs b) → Closes (declaration_weighs (declaration.Function at t n None b))
-closes-main at t n b closes w = closes w
+closes-main at t n b closes w = closes-then (bracketed no_token) (block_weighs b) (closes-bracketed no_token (λ v. refl)) closes w
 
 pub light-program : (p : Program) → AllClose declaration_weighs p.declarations → is_light p ≡ list_all is_light_declaration p.declarations
 light-program p c = light-in_order declaration_weighs 0 p.declarations c

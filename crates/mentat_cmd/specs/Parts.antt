@@ -1,6 +1,8 @@
 -- What is said of a program, said of its parts.
-use Rattle.std.specs.Prelude.{ℕ, Bool, nat_le, List}
+use Rattle.std.specs.Prelude.{ℕ, Bool, nat_le, List, map, Option}
 use Rattle.std.specs.List.{list_all}
+use Rattle.std.specs.Option.{option_map}
+use Rattle.mpl_ast.specs.declared.class.Formals.{Formals}
 use Rattle.mpl_ast.specs.declared.class.Item.{Item}
 use Rattle.mpl_ast.specs.declared.expression.Expression.{Expression}
 use Rattle.mpl_ast.specs.declared.expression.Primary.{Primary, fold-Primary}
@@ -15,7 +17,10 @@ use Rattle.mpl_ast.specs.declared.statement.Declarator.{Declarator}
 use Rattle.mpl_ast.specs.declared.statement.Local.{Local}
 use Rattle.mpl_ast.specs.declared.statement.Statement.{Statement}
 use Rattle.mpl_mean.specs.ExpressionText as text
-use Rattle.mpl_mean.specs.Reading.{Reads}
+use Rattle.mpl_ast.specs.declared.token.Mark.TheVariants as m
+use Rattle.mpl_mean.specs.ProgramText.{formals_text}
+use Rattle.mpl_mean.specs.Reading.{Reads, ◌>>◌, mark, optional, separated_if_any}
+use Rattle.mpl_mean.specs.StatementText.{flow_text}
 use Rattle.mpl_mean.specs.Weight.{block_weighs, call_weighs, declaration_weighs, declarator_weighs, expression_weighs, flow_weighs, item_weighs, local_weighs, statement_weighs}
 
 -- ---- the tokens
@@ -35,6 +40,14 @@ unary_text = fold-Unary Reads Reads Reads Reads Reads Reads Reads Reads Reads te
 abbrev pub primary_text : Primary → Reads
 primary_text = fold-Primary Reads Reads Reads Reads Reads Reads Reads Reads Reads text.conjunction_step text.equality_step
     text.expression_step text.place_step text.primary_step text.relation_step text.sum_step text.term_step text.unary_step
+
+-- the formals, if any, and the mark behind them
+abbrev pub formals_to_end : Option Formals → Reads
+formals_to_end fs = optional (option_map formals_text fs) >> mark m.CloseParenthesis
+
+-- the arguments of a call, if any, and the mark behind them
+abbrev pub arguments_to_end : List Flow → Reads
+arguments_to_end fs = separated_if_any (map flow_text fs) >> mark m.CloseParenthesis
 
 -- ---- the weights
 

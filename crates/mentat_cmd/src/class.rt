@@ -2,16 +2,15 @@
 
 ghost use Rattle.std.specs.List.{list_all};
 ghost use Rattle.std.specs.Prelude.{◌≡◌, ◌+◌, ◌<◌, ◌≤◌, ◌^◌, true, false, map, IfOk, OnOk, Err, Some, length};
-ghost use Rattle.std.specs.Option.{option_map};
 ghost use Rattle.mpl_ast.specs.declared.class.Formal.{Formal};
 ghost use Rattle.mpl_ast.specs.declared.token.Keyword.TheVariants as word;
 ghost use Rattle.mpl_ast.specs.declared.token.Mark.TheVariants as mark;
 ghost use Rattle.mpl_mean.specs.FirstForm.{are_ints, gives_result, is_class, is_first_item, is_int, is_int_result, is_one_result, is_regular};
 ghost use Rattle.mpl_mean.specs.ProgramText.{declaration_text, formal_text, formals_text, item_text, kind_text, result_text};
-ghost use Rattle.mpl_mean.specs.Reading.{◌>>◌, is_mark, is_keyword, mark, each, separated, optional};
+ghost use Rattle.mpl_mean.specs.Reading.{is_mark, is_keyword, each, separated};
 ghost use Rattle.mpl_mean.specs.StatementText.{block_text, statement_text, type_text};
 ghost use Rattle.mentat_cmd.specs.Ahead.{first_is};
-ghost use Rattle.mentat_cmd.specs.Parts.{is_light_block, is_light_declaration, is_light_item, is_light_statement};
+ghost use Rattle.mentat_cmd.specs.Parts.{formals_to_end, is_light_block, is_light_declaration, is_light_item, is_light_statement};
 ghost use Rattle.mentat_cmd.specs.Reader.{rest_of, numbered};
 ghost use Rattle.mentat_cmd.specs.Stages as stage;
 ghost use Rattle.mentat_cmd.specs.Stages.{leads};
@@ -76,6 +75,7 @@ impl<'a> Reader<'a> {
         ensures text { kind_text result (rest_of self.old) ≡ Some (rest_of self.new) }
         ensures built { is_regular result ≡ true }
         ensures room { numbered 12 (rest_of self.new) + 10 ≤ numbered 12 (rest_of self.old) }
+        ensures shorter { length self.new.left.now < length self.old.left.now }
     {
         let start = self.start();
         self.take();
@@ -91,6 +91,7 @@ impl<'a> Reader<'a> {
         ensures end { OnOk result (first_is (is_keyword word.Int) self.new.left.now ≡ false) }
         ensures unfit { result ≡ Err ParseFault.Unfit → leads stage.InClass self.old.left.now ≡ false }
         ensures room { OnOk result (numbered 12 (rest_of self.new) ≤ numbered 12 (rest_of self.old)) }
+        ensures shorter { OnOk result (length self.new.left.now ≤ length self.old.left.now) }
     {
         let mut members = Items::new(alloc);
         while sees_keyword(self.left, Keyword::Int) {
@@ -127,6 +128,7 @@ impl<'a> Reader<'a> {
         ensures text { result_text result (rest_of self.old) ≡ Some (rest_of self.new) }
         ensures built { is_int_result result ≡ true }
         ensures room { numbered 12 (rest_of self.new) + 10 ≤ numbered 12 (rest_of self.old) }
+        ensures shorter { length self.new.left.now < length self.old.left.now }
     {
         let start = self.start();
         let type_name = self.int();
@@ -136,10 +138,11 @@ impl<'a> Reader<'a> {
     /// `formals? ')'`
     fn formals(&mut self, alloc: Global) -> Result<Option<Formals>, ParseFault>
         requires room { numbered 12 (rest_of self.old) < 2 ^ 31 }
-        ensures text { IfOk result (λ f. (optional (option_map formals_text f) >> mark mark.CloseParenthesis) (rest_of self.old) ≡ Some (rest_of self.new)) }
+        ensures text { IfOk result (λ f. formals_to_end f (rest_of self.old) ≡ Some (rest_of self.new)) }
         ensures built { IfOk result (λ f. are_ints f ≡ true) }
         ensures unfit { result ≡ Err ParseFault.Unfit → leads stage.InFormals self.old.left.now ≡ false }
         ensures room { OnOk result (numbered 12 (rest_of self.new) ≤ numbered 12 (rest_of self.old)) }
+        ensures shorter { OnOk result (length self.new.left.now < length self.old.left.now) }
     {
         if sees_mark(self.left, Mark::CloseParenthesis) {
             self.take();
@@ -158,6 +161,7 @@ impl<'a> Reader<'a> {
         ensures end { OnOk result (first_is (is_mark mark.Comma) self.new.left.now ≡ false) }
         ensures unfit { result ≡ Err ParseFault.Unfit → leads stage.BeforeFormalType self.old.left.now ≡ false }
         ensures room { OnOk result (numbered 12 (rest_of self.new) ≤ numbered 12 (rest_of self.old)) }
+        ensures shorter { OnOk result (length self.new.left.now < length self.old.left.now) }
     {
         if !sees_keyword(self.left, Keyword::Int) {
             return Err(ParseFault::Unfit);
@@ -172,7 +176,7 @@ impl<'a> Reader<'a> {
 
     /// `('int' NAME) % ','`, of which `int` is the next token.
     fn formal_list(&mut self, alloc: Global) -> Result<Items<Formal>, ParseFault>
-        requires room { numbered 11 (rest_of self.old) < 2 ^ 31 }
+        requires room { numbered 12 (rest_of self.old) < 2 ^ 31 + 1 }
         ensures text { IfOk result (λ fs. separated (map formal_text fs) (rest_of self.old) ≡ Some (rest_of self.new)) }
         ensures built { IfOk result (λ fs. list_all (λ (f : Formal). is_int f.type_name) fs ≡ true) }
         ensures end { OnOk result (first_is (is_mark mark.Comma) self.new.left.now ≡ false) }
@@ -193,7 +197,7 @@ impl<'a> Reader<'a> {
 
     /// `'int' NAME`
     fn formal(&mut self, alloc: Global) -> Result<Formal, ParseFault>
-        requires room { numbered 11 (rest_of self.old) < 2 ^ 31 }
+        requires room { numbered 12 (rest_of self.old) < 2 ^ 31 + 1 }
         ensures text { IfOk result (λ f. formal_text f (rest_of self.old) ≡ Some (rest_of self.new)) }
         ensures built { IfOk result (λ f. is_int f.type_name ≡ true) }
         ensures unfit { result ≡ Err ParseFault.Unfit → leads stage.BeforeFormalType self.old.left.now ≡ false }
@@ -216,6 +220,7 @@ impl<'a> Reader<'a> {
         ensures light { IfOk result (λ b. is_light_block 1 b ≡ true) }
         ensures unfit { result ≡ Err ParseFault.Unfit → leads stage.BeforeBody self.old.left.now ≡ false }
         ensures room { OnOk result (numbered 12 (rest_of self.new) ≤ numbered 12 (rest_of self.old)) }
+        ensures shorter { OnOk result (length self.new.left.now < length self.old.left.now) }
     {
         if !sees_mark(self.left, Mark::OpenBrace) {
             return Err(ParseFault::Unfit);
@@ -241,6 +246,7 @@ impl<'a> Reader<'a> {
         ensures light { IfOk result (λ s. is_light_statement 2 s ≡ true) }
         ensures unfit { result ≡ Err ParseFault.Unfit → leads stage.BeforeRtf self.old.left.now ≡ false }
         ensures room { OnOk result (numbered 12 (rest_of self.new) ≤ numbered 12 (rest_of self.old)) }
+        ensures shorter { OnOk result (length self.new.left.now < length self.old.left.now) }
     {
         if !sees_keyword(self.left, Keyword::Rtf) {
             return Err(ParseFault::Unfit);

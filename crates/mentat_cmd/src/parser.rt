@@ -122,6 +122,7 @@ impl<'a> Reader<'a> {
         ensures text { type_text result (rest_of self.old) ≡ Some (rest_of self.new) }
         ensures built { is_int result ≡ true }
         ensures room { numbered 12 (rest_of self.new) + 10 ≤ numbered 12 (rest_of self.old) }
+        ensures shorter { length self.new.left.now < length self.old.left.now }
     {
         let start = self.start();
         self.take();

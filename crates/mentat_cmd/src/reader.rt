@@ -128,6 +128,7 @@ impl<'a> Reader<'a> {
         ensures found { IfOk result (λ n. reading.name n (rest_of self.old) ≡ Some (rest_of self.new)) }
         ensures left { OnOk result (self.new.left.now ≡ tail self.old.left.now) }
         ensures next { self.new.next ≡ self.old.next }
+        ensures shorter { OnOk result (length self.new.left.now < length self.old.left.now) }
     {
         let token = self.take();
         match &token.kind {
@@ -147,6 +148,7 @@ impl<'a> Reader<'a> {
         ensures variable { IfOk result (λ t. is_variable t ≡ true) }
         ensures left { OnOk result (self.new.left.now ≡ tail self.old.left.now) }
         ensures next { OnOk result (self.new.next ≡ self.old.next + 1) }
+        ensures shorter { OnOk result (length self.new.left.now < length self.old.left.now) }
     {
         let start = self.start();
         let name = self.take_name(alloc)?;

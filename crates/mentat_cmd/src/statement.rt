@@ -8,10 +8,10 @@ ghost use Rattle.mpl_ast.specs.declared.token.Keyword.TheVariants as word;
 ghost use Rattle.mpl_ast.specs.declared.token.Mark.TheVariants as mark;
 ghost use Rattle.mpl_mean.specs.ExpressionText.{expression_text, target_text};
 ghost use Rattle.mpl_mean.specs.FirstForm.{is_call, is_first_call, is_first_declarator, is_first_expression, is_first_flow, is_first_local, is_first_statement, is_int, is_named, is_variable};
-ghost use Rattle.mpl_mean.specs.Reading.{◌>>◌, is_mark, is_keyword, mark, each, separated, separated_if_any};
+ghost use Rattle.mpl_mean.specs.Reading.{is_mark, is_keyword, each, separated};
 ghost use Rattle.mpl_mean.specs.StatementText.{block_text, call_text, declarator_text, flow_text, local_text, statement_text, type_text};
 ghost use Rattle.mentat_cmd.specs.Ahead.{begins_local, begins_statement, first_is, is_any_name};
-ghost use Rattle.mentat_cmd.specs.Parts.{is_light_block, is_light_call, is_light_declarator, is_light_expression, is_light_flow, is_light_local, is_light_statement};
+ghost use Rattle.mentat_cmd.specs.Parts.{arguments_to_end, is_light_block, is_light_call, is_light_declarator, is_light_expression, is_light_flow, is_light_local, is_light_statement};
 ghost use Rattle.mentat_cmd.specs.Reader.{rest_of, numbered};
 ghost use Rattle.mentat_cmd.specs.Stages as stage;
 ghost use Rattle.mentat_cmd.specs.declared.expression.Role.TheVariants.{Printed, Passed};
@@ -150,7 +150,7 @@ impl<'a> Reader<'a> {
     /// `NAME NAME` or `'int' NAME '=' call`, of which the first token stands there.
     fn local(&mut self, alloc: Global) -> Result<Local, ParseFault>
         requires first { first_is begins_local self.old.left.now ≡ true }
-        requires room { numbered 11 (rest_of self.old) < 2 ^ 31 }
+        requires room { numbered 12 (rest_of self.old) < 2 ^ 31 + 1 }
         ensures text { IfOk result (λ l. local_text l (rest_of self.old) ≡ Some (rest_of self.new)) }
         ensures built { IfOk result (λ l. is_first_local l.type_name l.declarators ≡ true) }
         ensures light { IfOk result (λ l. is_light_local 1 l ≡ true) }
@@ -187,6 +187,7 @@ impl<'a> Reader<'a> {
         ensures text { IfOk result (λ t. type_text t (rest_of self.old) ≡ Some (rest_of self.new)) }
         ensures built { IfOk result (λ t. is_named t ≡ true) }
         ensures room { OnOk result (numbered 12 (rest_of self.new) + 10 ≤ numbered 12 (rest_of self.old)) }
+        ensures shorter { OnOk result (length self.new.left.now < length self.old.left.now) }
     {
         let start = self.start();
         let name = self.take_name(alloc)?;
@@ -201,6 +202,7 @@ impl<'a> Reader<'a> {
         ensures light { IfOk result (λ d. is_light_declarator 1 d ≡ true) }
         ensures unfit { result ≡ Err ParseFault.Unfit → leads stage.BeforeVariable self.old.left.now ≡ false }
         ensures room { OnOk result (numbered 12 (rest_of self.new) + 10 ≤ numbered 12 (rest_of self.old)) }
+        ensures shorter { OnOk result (length self.new.left.now < length self.old.left.now) }
     {
         if !sees_any_name(self.left) {
             return Err(ParseFault::Unfit);
@@ -212,12 +214,13 @@ impl<'a> Reader<'a> {
 
     /// A variable for the result of a call: `NAME '=' call`.
     fn result(&mut self, alloc: Global) -> Result<Declarator, ParseFault>
-        requires room { numbered 11 (rest_of self.old) < 2 ^ 31 }
+        requires room { numbered 12 (rest_of self.old) < 2 ^ 31 }
         ensures text { IfOk result (λ d. declarator_text d (rest_of self.old) ≡ Some (rest_of self.new)) }
         ensures built { IfOk result (λ d. (t : TypeName) → is_int t ≡ true → is_first_declarator t d ≡ true) }
         ensures light { IfOk result (λ d. is_light_declarator 1 d ≡ true) }
         ensures unfit { result ≡ Err ParseFault.Unfit → leads stage.BeforeResult self.old.left.now ≡ false }
         ensures room { OnOk result (numbered 12 (rest_of self.new) ≤ numbered 12 (rest_of self.old)) }
+        ensures shorter { OnOk result (length self.new.left.now < length self.old.left.now) }
     {
         if !sees_any_name(self.left) {
             return Err(ParseFault::Unfit);
@@ -237,6 +240,7 @@ impl<'a> Reader<'a> {
         ensures light { IfOk result (λ f. is_light_flow 1 f ≡ true) }
         ensures unfit { result ≡ Err ParseFault.Unfit → leads stage.BeforeReceiver self.old.left.now ≡ false }
         ensures room { OnOk result (numbered 12 (rest_of self.new) ≤ numbered 12 (rest_of self.old)) }
+        ensures shorter { OnOk result (length self.new.left.now < length self.old.left.now) }
     {
         if !sees_any_name(self.left) {
             return Err(ParseFault::Unfit);
@@ -249,12 +253,13 @@ impl<'a> Reader<'a> {
     /// `NAME '.' NAME '(' (expr % ',')? ')'`, of which the first name stands there.
     fn call(&mut self, alloc: Global) -> Result<Call, ParseFault>
         requires first { first_is is_any_name self.old.left.now ≡ true }
-        requires room { numbered 11 (rest_of self.old) < 2 ^ 31 }
+        requires room { numbered 12 (rest_of self.old) < 2 ^ 31 + 1 }
         ensures text { IfOk result (λ c. call_text c (rest_of self.old) ≡ Some (rest_of self.new)) }
         ensures built { IfOk result (λ c. is_first_call c ≡ true) }
         ensures light { IfOk result (λ c. is_light_call 1 c ≡ true) }
         ensures unfit { result ≡ Err ParseFault.Unfit → leads stage.BeforeReceiver self.old.left.now ≡ false }
         ensures room { OnOk result (numbered 12 (rest_of self.new) + 2 ≤ numbered 12 (rest_of self.old)) }
+        ensures shorter { OnOk result (length self.new.left.now < length self.old.left.now) }
     {
         let start = self.start();
         let target = self.variable(alloc)?;
@@ -268,11 +273,12 @@ impl<'a> Reader<'a> {
     /// `(expr % ',')? ')'`
     fn passed_if_any(&mut self, alloc: Global) -> Result<Items<Flow>, ParseFault>
         requires room { numbered 12 (rest_of self.old) < 2 ^ 31 }
-        ensures text { IfOk result (λ a. (separated_if_any (map flow_text a) >> mark mark.CloseParenthesis) (rest_of self.old) ≡ Some (rest_of self.new)) }
+        ensures text { IfOk result (λ a. arguments_to_end a (rest_of self.old) ≡ Some (rest_of self.new)) }
         ensures built { IfOk result (λ a. list_all is_first_flow a ≡ true) }
         ensures light { IfOk result (λ a. list_all (is_light_flow 2) a ≡ true) }
         ensures unfit { result ≡ Err ParseFault.Unfit → leads stage.BeforeArguments self.old.left.now ≡ false }
         ensures room { OnOk result (numbered 12 (rest_of self.new) ≤ numbered 12 (rest_of self.old)) }
+        ensures shorter { OnOk result (length self.new.left.now < length self.old.left.now) }
     {
         if sees_mark(self.left, Mark::CloseParenthesis) {
             self.take();
@@ -293,6 +299,7 @@ impl<'a> Reader<'a> {
         ensures end { OnOk result (first_is (is_mark mark.Comma) self.new.left.now ≡ false) }
         ensures unfit { result ≡ Err ParseFault.Unfit → leads (stage.BeforeOperand Passed 0) self.old.left.now ≡ false }
         ensures room { OnOk result (numbered 12 (rest_of self.new) ≤ numbered 12 (rest_of self.old)) }
+        ensures shorter { OnOk result (length self.new.left.now < length self.old.left.now) }
     {
         let mut arguments = Items::new(alloc);
         let first = self.flow(alloc, Role::Passed)?;

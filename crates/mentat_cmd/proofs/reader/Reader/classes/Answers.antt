@@ -1,6 +1,6 @@
 use Rattle.std.proofs.Common.{◌≡◌, ◌∙◌, false, arith}
 use Rattle.mentat_cmd.proofs.Parsed.{all-grown, each-grown}
-use Rattle.mentat_cmd.proofs.Whole.{led-classes}
+use Rattle.mentat_cmd.proofs.WholeClasses.{led-classes}
 use Rattle.mentat_cmd.specs.Parts.{is_light_declaration}
 use Rattle.mentat_cmd.specs.Reader.{rest_of}
 use Rattle.mentat_cmd.specs.Stages.{BeforeDeclaration, leads}

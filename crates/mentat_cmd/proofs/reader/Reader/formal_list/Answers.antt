@@ -1,6 +1,9 @@
-use Rattle.std.proofs.Common.{◌≡◌, ◌∙◌, true, ap, sym, arith, Some, List, length}
+use Rattle.std.proofs.Common.{◌≡◌, ◌∙◌, false, true, refl, ap, sym, arith, Some, List, length}
+use Rattle.mentat_cmd.proofs.Leading.{led-mark}
 use Rattle.mentat_cmd.proofs.Parsed.{all-grown, reads-mark, separated-grown}
+use Rattle.mentat_cmd.proofs.WholeClasses.{led-formal_list}
 use Rattle.mentat_cmd.specs.Reader.{rest_of}
+use Rattle.mentat_cmd.specs.Stages.{BeforeFormalType, BehindFormal, leads}
 use Rattle.mpl_ast.specs.declared.class.Formal.{Formal}
 use Rattle.mpl_ast.specs.declared.token.Mark.TheVariants as mark_of
 use Rattle.mpl_ast.specs.declared.token.Token.{Token}
@@ -25,3 +28,13 @@ loop-alloc-preserved c =
       room = omega (arith, c.in_ok-formal.ensures.room);
       shorter = omega (arith, c.in_ok-formal.ensures.shorter);
     }
+
+pub returns-in_err-formal-clause-unfit : goal.returns-in_err-formal-clause-unfit
+returns-in_err-formal-clause-unfit c = λ unfit.
+    let failed : leads BeforeFormalType c.take.new.self.left.now ≡ false = grind arith in
+    let comma : mark mark_of.Comma (rest_of c.loop-alloc.self) ≡ Some (rest_of c.take.new.self) =
+    reads-mark mark_of.Comma c.take.result.now (rest_of c.loop-alloc.self) (rest_of c.take.new.self) c.take.ensures.tokens c.take.ensures.last c.take.ensures.next (sym c.sees_mark.ensures ∙ c.loop-alloc-test.true)
+    in
+    led-formal_list c.loop-alloc.formals (rest_of c.args.self.now) (rest_of c.loop-alloc.self) c.loop-alloc.invariant.built c.loop-alloc.invariant.text
+    ∙ led-mark BehindFormal BeforeFormalType mark_of.Comma (rest_of c.loop-alloc.self) (rest_of c.take.new.self) refl comma
+    ∙ failed

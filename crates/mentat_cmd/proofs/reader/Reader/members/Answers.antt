@@ -1,6 +1,6 @@
 use Rattle.std.proofs.Common.{◌≡◌, ◌∙◌, false, arith}
 use Rattle.mentat_cmd.proofs.Parsed.{all-grown, each-grown}
-use Rattle.mentat_cmd.proofs.Whole.{led-items}
+use Rattle.mentat_cmd.proofs.WholeClasses.{led-items}
 use Rattle.mentat_cmd.specs.Parts.{is_light_item}
 use Rattle.mentat_cmd.specs.Reader.{rest_of}
 use Rattle.mentat_cmd.specs.Stages.{InClass, leads}
@@ -19,6 +19,7 @@ loop-alloc-preserved c =
       built = all-grown is_first_item before c.push.new.self part grown c.loop-alloc.invariant.built c.in_ok-member.ensures.built;
       light = all-grown is_light_item before c.push.new.self part grown c.loop-alloc.invariant.light c.in_ok-member.ensures.light;
       room = omega (arith, c.in_ok-member.ensures.room);
+      shorter = omega (arith, c.in_ok-member.ensures.shorter);
     }
 
 pub returns-in_err-member-clause-unfit : goal.returns-in_err-member-clause-unfit

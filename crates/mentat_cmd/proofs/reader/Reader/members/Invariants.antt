@@ -13,6 +13,7 @@ invariant-loop-alloc l = record {
   built : list_all is_first_item l.members ≡ true;
   light : list_all is_light_item l.members ≡ true;
   room : numbered 12 (rest_of l.self) ≤ numbered 12 (rest_of l.fn.self);
+  shorter : length l.self.left.now ≤ length l.fn.self.left.now;
 }
 
 abbrev pub decreases-loop-alloc : goal.decreases-loop-alloc

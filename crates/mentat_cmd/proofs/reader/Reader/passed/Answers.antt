@@ -28,4 +28,5 @@ loop-alloc-preserved c =
       light = all-grown (is_light_flow 2) before c.push-in-loop-alloc.new.self part grown c.loop-alloc.invariant.light c.in_ok-argument.ensures.light;
       led = c.loop-alloc.invariant.led ∙ led-mark (BehindExpression Passed) (BeforeOperand Passed 0) mark_of.Comma (rest_of c.loop-alloc.self) (rest_of c.take.new.self) refl comma ∙ c.in_ok-argument.ensures.leads;
       room = omega (arith, c.in_ok-argument.ensures.room);
+      shorter = omega (arith, c.in_ok-argument.ensures.shorter);
     }

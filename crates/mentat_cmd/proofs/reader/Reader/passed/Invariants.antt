@@ -1,4 +1,4 @@
-use Rattle.std.proofs.Common.{◌≡◌, ◌≤◌, Some, map, length, true}
+use Rattle.std.proofs.Common.{◌≡◌, ◌<◌, ◌≤◌, Some, map, length, true}
 use Rattle.std.specs.List.{list_all}
 use Rattle.mentat_cmd.specs.Parts.{is_light_flow}
 use Rattle.mentat_cmd.specs.Reader.{rest_of, numbered}
@@ -16,6 +16,7 @@ invariant-loop-alloc l = record {
   light : list_all (is_light_flow 2) l.arguments ≡ true;
   led : leads (BeforeOperand Passed 0) l.fn.self.left.now ≡ leads (BehindExpression Passed) l.self.left.now;
   room : numbered 12 (rest_of l.self) ≤ numbered 12 (rest_of l.fn.self);
+  shorter : length l.self.left.now < length l.fn.self.left.now;
 }
 
 abbrev pub decreases-loop-alloc : goal.decreases-loop-alloc
