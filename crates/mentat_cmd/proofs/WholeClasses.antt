@@ -1,5 +1,5 @@
 -- The tokens of classes and programs lead from the stage before them to the one behind them.
-use Rattle.std.proofs.Common.{◌≡◌, ℕ, ◌+◌, ◌≤◌, Bool, true, false, ◌&&◌, ◌==◌, List, [], ◌∷◌, map, codes, length, Option, Some, None, if◌then◌else◌, refl, ap, sym, ◌∙◌, subst, arith}
+use Rattle.std.proofs.Common.{◌≡◌, ℕ, ◌+◌, ◌≤◌, Bool, true, false, ◌&&◌, ◌==◌, List, [], ◌∷◌, ◌++◌, map, codes, length, Option, Some, None, if◌then◌else◌, refl, ap, sym, ◌∙◌, subst, arith}
 use Rattle.std.proofs.lemmas.Slice.Eq.{bytes_eq-Decides}
 use Rattle.std.specs.List.{list_all}
 use Rattle.std.specs.Option.{option_map}
@@ -39,6 +39,9 @@ use Rattle.mentat_cmd.proofs.Forms.{result_statement}
 use Rattle.mentat_cmd.proofs.Layers.{statement_text-rtf, gives_result-rtf}
 use Rattle.mentat_cmd.proofs.Leading.{led-token, led-mark, led-mark_on, led-keyword, led-name, led-int}
 use Rattle.mentat_cmd.proofs.Led.{leads-refused}
+use Rattle.mentat_cmd.specs.Reader.{at_of}
+use Rattle.mentat_cmd.specs.declared.reader.Start.{Start}
+use Rattle.mentat_cmd.proofs.Parsed.{Begins, reads-begun}
 use Rattle.mentat_cmd.proofs.Steps.{parts_read, token_taken, both_read, and_true, if_some}
 use Rattle.mentat_cmd.proofs.Weights.{light-rtf, light-block, light-member, light-class, light-main, light-program}
 use Rattle.mentat_cmd.proofs.Whole.{stays, led-all, stops-mark, led-flow, led-block}
@@ -279,3 +282,25 @@ pub no_program : (p : Program) (ts : List Token) → leads BeforeDeclaration ts 
 no_program p ts h s b l =
     let e = led-program p ts s b l in
     cc
+
+-- ---- `main` behind the classes
+
+first-more : (ds : List Declaration) (d : Declaration) → list_all is_class ds ≡ true → is_main d ≡ true → are_first (ds ++ d ∷ []) ≡ true
+first-more [] d b i = i
+first-more (c ∷ []) d b i = rw ((and_true (is_class c) true b).0, i) refl
+first-more (c ∷ e ∷ ds) d b i =
+    let p = and_true (is_class c) (list_all is_class (e ∷ ds)) b in
+    rw p.0 (first-more (e ∷ ds) d p.1 i)
+
+pub first-grown : (ds all : List Declaration) (d : Declaration) → all ≡ ds ++ d ∷ [] → list_all is_class ds ≡ true → is_main d ≡ true → are_first all ≡ true
+first-grown ds all d is b i = ap are_first is ∙ first-more ds d b i
+
+-- ---- a program that was read
+
+empty-left : (x : Rest) → x.tokens ≡ [] → nothing_left (Some x) ≡ true
+empty-left x e = rw e refl
+
+pub program-spells : (s : Start) (ds : List Declaration) (ts : List Token) (m x : Rest) → 1 ≤ length ts → Begins s (all_of ts) m → each (map declaration_text ds) m ≡ Some x → x.tokens ≡ [] → (let p : Program = record { at = at_of s x.last; declarations = ds } in spells p ts ≡ true)
+program-spells s ds [] m x n b h e = absurd (omega arith)
+program-spells s ds (t ∷ ts) m x n b h e =
+    ap nothing_left (reads-begun s (each (map declaration_text ds)) (all_of (t ∷ ts)) m x b h) ∙ empty-left x e

@@ -1,6 +1,7 @@
 //! The tree of the programs of the first form.
 
 ghost use Rattle.std.specs.Prelude.{◌≡◌, ◌+◌, ◌<◌, ◌≤◌, ◌^◌, true, false, map, codes, IfOk, OnOk, Err, Some, length};
+ghost use Rattle.std.specs.List.{list_all};
 ghost use Rattle.std.specs.Str.{bytes_eq};
 ghost use Rattle.mpl_ast.specs.declared.program.Program.{Program};
 ghost use Rattle.mpl_ast.specs.declared.token.Keyword.TheVariants as word;

@@ -1,7 +1,10 @@
 use Rattle.std.proofs.Common.{◌≡◌, ◌∙◌, false, arith}
-use Rattle.mentat_cmd.proofs.WholeClasses.{led-classes}
+use Rattle.mentat_cmd.proofs.Parsed.{all-grown, each-grown}
+use Rattle.mentat_cmd.proofs.WholeClasses.{first-grown, led-classes}
+use Rattle.mentat_cmd.specs.Parts.{is_light_declaration}
 use Rattle.mentat_cmd.specs.Reader.{rest_of}
 use Rattle.mentat_cmd.specs.Stages.{BeforeDeclaration, leads}
+use Rattle.mpl_mean.specs.ProgramText.{declaration_text}
 use Rattle.mentat_cmd.proofs.reader.Reader.declarations.Goals as goal
 
 pub returns-in_err-declarations-clause-unfit : goal.returns-in_err-declarations-clause-unfit
@@ -14,3 +17,12 @@ returns-in_err-main-clause-unfit c = λ unfit.
     let failed : leads BeforeDeclaration c.classes.new.self.left.now ≡ false = grind arith in
     led-classes c.in_ok-declarations.declarations (rest_of c.args.self.now) (rest_of c.classes.new.self) c.in_ok-declarations.ensures.built c.in_ok-declarations.ensures.light c.in_ok-declarations.ensures.text
     ∙ failed
+
+pub returns-clause-text : goal.returns-clause-text
+returns-clause-text c = each-grown declaration_text c.in_ok-declarations.declarations c.push.new.self c.in_ok-main.main (rest_of c.args.self.now) (rest_of c.classes.new.self) (rest_of c.main.new.self) c.in_ok-push.ensures.ok c.in_ok-declarations.ensures.text c.in_ok-main.ensures.text
+
+pub returns-clause-built : goal.returns-clause-built
+returns-clause-built c = first-grown c.in_ok-declarations.declarations c.push.new.self c.in_ok-main.main c.in_ok-push.ensures.ok c.in_ok-declarations.ensures.built c.in_ok-main.ensures.built
+
+pub returns-clause-light : goal.returns-clause-light
+returns-clause-light c = all-grown is_light_declaration c.in_ok-declarations.declarations c.push.new.self c.in_ok-main.main c.in_ok-push.ensures.ok c.in_ok-declarations.ensures.light c.in_ok-main.ensures.light

@@ -1,14 +1,16 @@
 use Rattle.std.proofs.Common.{◌≡◌, ◌∙◌, ◌+◌, false, true, refl, sym, arith, codes}
 use Rattle.mentat_cmd.proofs.Leading.{led-begun, led-int, led-mark_on}
 use Rattle.mentat_cmd.proofs.Led.{leads-not}
-use Rattle.mentat_cmd.proofs.Turns.{leads-no_class, no_class}
+use Rattle.mentat_cmd.proofs.Parsed.{mark-of_mark_on, reads-begun, reads-both}
+use Rattle.mentat_cmd.proofs.Turns.{leads-no_class}
 use Rattle.mentat_cmd.proofs.Weights.{light-main}
 use Rattle.mentat_cmd.proofs.WholeClasses.{led-main_name}
 use Rattle.mentat_cmd.specs.Ahead.{first_is}
 use Rattle.mentat_cmd.specs.Reader.{rest_of}
 use Rattle.mentat_cmd.specs.Stages.{BeforeDeclaration, BeforeMain, BeforeOpen, BeforeClose, BeforeBlock, leads}
 use Rattle.mpl_ast.specs.declared.token.Mark.TheVariants as mark_of
-use Rattle.mpl_mean.specs.Reading.{is_mark, is_name, mark, name}
+use Rattle.mpl_mean.specs.Reading.{◌>>◌, is_mark, is_name, mark, name, nothing}
+use Rattle.mpl_mean.specs.StatementText.{block_text, type_text}
 use Rattle.mentat_cmd.proofs.reader.Reader.main.Goals as goal
 
 pub returns-then-not-sees_keyword-clause-unfit : goal.returns-then-not-sees_keyword-clause-unfit
@@ -48,6 +50,17 @@ returns-in_err-body-clause-unfit c = λ unfit.
     ∙ led-mark_on BeforeOpen BeforeClose c.in_ok-mark.field-0 mark_of.OpenParenthesis (rest_of c.main_name.new.self) (rest_of c.mark.new.self) refl c.in_ok-mark.ensures.found
     ∙ led-mark_on BeforeClose BeforeBlock c.in_ok-mark-2.field-0 mark_of.CloseParenthesis (rest_of c.mark.new.self) (rest_of c.mark-2.new.self) refl c.in_ok-mark-2.ensures.found
     ∙ failed
+
+pub returns-clause-text : goal.returns-clause-text
+returns-clause-text c = rw c.finish.ensures (
+    reads-begun c.start-start.result (type_text c.int-result_type.result >> name c.in_ok-name.name >> mark mark_of.OpenParenthesis >> nothing >> mark mark_of.CloseParenthesis >> block_text c.in_ok-body.body) (rest_of c.args.self.now) (rest_of c.start-start.new.self) (rest_of c.block.new.self)
+    (record { id = c.start-start.ensures.id; first = c.start-start.ensures.first; after = c.start-start.ensures.after })
+    (reads-both (type_text c.int-result_type.result) (name c.in_ok-name.name >> mark mark_of.OpenParenthesis >> nothing >> mark mark_of.CloseParenthesis >> block_text c.in_ok-body.body) (rest_of c.start-start.new.self) (rest_of c.int-result_type.new.self) (rest_of c.block.new.self) c.int-result_type.ensures.text
+    (reads-both (name c.in_ok-name.name) (mark mark_of.OpenParenthesis >> nothing >> mark mark_of.CloseParenthesis >> block_text c.in_ok-body.body) (rest_of c.int-result_type.new.self) (rest_of c.main_name.new.self) (rest_of c.block.new.self) c.in_ok-name.ensures.text
+    (reads-both (mark mark_of.OpenParenthesis) (nothing >> mark mark_of.CloseParenthesis >> block_text c.in_ok-body.body) (rest_of c.main_name.new.self) (rest_of c.mark.new.self) (rest_of c.block.new.self) (mark-of_mark_on c.in_ok-mark.field-0 mark_of.OpenParenthesis (rest_of c.main_name.new.self) (rest_of c.mark.new.self) c.in_ok-mark.ensures.found)
+    (reads-both (nothing) (mark mark_of.CloseParenthesis >> block_text c.in_ok-body.body) (rest_of c.mark.new.self) (rest_of c.mark.new.self) (rest_of c.block.new.self) refl
+    (reads-both (mark mark_of.CloseParenthesis) (block_text c.in_ok-body.body) (rest_of c.mark.new.self) (rest_of c.mark-2.new.self) (rest_of c.block.new.self) (mark-of_mark_on c.in_ok-mark-2.field-0 mark_of.CloseParenthesis (rest_of c.mark.new.self) (rest_of c.mark-2.new.self) c.in_ok-mark-2.ensures.found)
+    (c.in_ok-body.ensures.text)))))))
 
 pub returns-clause-light : goal.returns-clause-light
 returns-clause-light c = light-main c.finish.result c.int-result_type.result c.in_ok-name.name c.in_ok-body.body ∙ c.in_ok-body.ensures.light
