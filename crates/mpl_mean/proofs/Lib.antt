@@ -1,3 +1,11 @@
+mod KeptAssignments
+mod KeptCalls
+mod KeptExpressions
+mod KeptPlaces
+mod KeptStatements
+mod MoreTurns
+mod Simulation
 mod TokenCount
+mod UnlessSpent
 mod WorkedRun
 mod WorkedTokens
