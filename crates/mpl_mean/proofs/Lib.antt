@@ -1,8 +1,15 @@
+mod ComesBack
+mod Follows
+mod FollowsBodies
+mod FollowsCalls
+mod FollowsStores
 mod KeptAssignments
 mod KeptCalls
 mod KeptExpressions
 mod KeptPlaces
 mod KeptStatements
+mod Later
+mod MoreReplies
 mod MoreTurns
 mod Simulation
 mod TokenCount

@@ -18,9 +18,10 @@ use Rattle.mpl_mean.specs.Context.{Context}
 use Rattle.mpl_mean.specs.Layout.{Class, Member, classes_of}
 use Rattle.mpl_mean.specs.StatementMeaning.{gives_result}
 use Rattle.mpl_mean.specs.Store.{Doing, Outcome, Goes, Returns, Ends, Variable, variable_named, force, hold, declare}
-use Rattle.mpl_mean.proofs.Simulation.{Simulation, BelowBeside, Same, VariableBeside}
+use Rattle.mpl_mean.proofs.ComesBack.{after_plain, after_regular}
+use Rattle.mpl_mean.proofs.Simulation.{Simulation, BelowBeside, Same, VariableBeside, maybe_itself, variable_itself, zip_itself}
 use Rattle.mpl_mean.proofs.KeptStatements.{run_kept}
-use Rattle.mpl_mean.proofs.UnlessSpent.{is_spent, is_spent_end, Agrees, then_agrees, spend_agrees, none_agrees, loop_agrees, scope_agrees, answer_agrees, after_plain, after_regular, spent_in_plain, spent_in_regular, maybe_itself, zip_itself}
+use Rattle.mpl_mean.proofs.UnlessSpent.{is_spent, is_spent_end, Agrees, then_agrees, spend_agrees, none_agrees, loop_agrees, scope_agrees, answer_agrees, spent_in_plain, spent_in_regular}
 
 all_same : (args others : List Arg) → AllZip Same args others → args ≡ others
 all_same args others h = sym (same_from_all_zip Same args others h (λ x y e. sym e))
@@ -53,7 +54,7 @@ by_turns n m le replies = record {
   traps = λ A V t s i. refl;
   waiting = λ A V s i. refl;
   spends = spend_agrees n m le;
-  looks = λ A V name h k r s. let v = variable_named name s.variables in r v v (maybe_itself v) s;
+  looks = λ A V name h k r s. let v = variable_named name s.variables in r v v (maybe_itself (VariableBeside Same) (variable_itself Same (λ a. refl)) v) s;
   returns = λ words s i. refl;
   state = λ s i. refl;
   restates = λ offset words s i. refl;

@@ -133,3 +133,14 @@ runs_in_turn S (f ∷ fs) (g ∷ gs) r = goes_on_same S f g _ _ r.0 (λ _. runs_
 pub zip_map : {X A : Type 0} (R : A → A → Type 0) (f g : X → A) (xs : List X) → ((x : X) → R (f x) (g x)) → AllZip R (map f xs) (map g xs)
 zip_map R f g [] h = tt
 zip_map R f g (x ∷ xs) h = (h x, zip_map R f g xs h)
+
+pub zip_itself : {A : Type 0} (R : A → A → Type 0) → ((a : A) → R a a) → (xs : List A) → AllZip R xs xs
+zip_itself R r [] = tt
+zip_itself R r (x ∷ xs) = (r x, zip_itself R r xs)
+
+pub variable_itself : (Held : Arg → Arg → Type 0) → ((a : Arg) → Held a a) → (v : Variable) → VariableBeside Held v v
+variable_itself Held r v = record { same = refl; holds = r v.holds }
+
+pub maybe_itself : {A : Type 0} (R : A → A → Type 0) → ((a : A) → R a a) → (v : Option A) → MaybeBeside R v v
+maybe_itself R r None = tt
+maybe_itself R r (Some a) = r a

@@ -1,19 +1,16 @@
 -- Two steps that do the same, unless the first runs out of turns.
-use Rattle.std.proofs.Common.{◌≡◌, ℕ, zero, suc, ◌+◌, ◌≤◌, Bool, true, false, List, [], ◌∷◌, Option, Some, None, if◌then◌else◌, nat_lt, ℤ, refl, ap, subst, arith}
+use Rattle.std.proofs.Common.{◌≡◌, ℕ, zero, suc, ◌+◌, ◌≤◌, Bool, true, false, List, Option, Some, None, if◌then◌else◌, nat_lt, refl, ap, subst, arith}
 use Rattle.std.proofs.lemmas.Bool.Decides.{nat_tests}
-use Rattle.std.specs.List.{AllZip}
 use Rattle.mpl_value.specs.declared.body.Arg.{Arg}
 use Rattle.mpl_value.specs.declared.body.BodyEnd.{BodyEnd}
 use Rattle.mpl_value.specs.declared.body.BodyEnd.TheVariants as end
 use Rattle.mpl_value.specs.declared.known.Trap.{Trap}
-use Rattle.mpl_mean.specs.BodyMeaning.{back_with, member_end, store_of, with_variables}
 use Rattle.mpl_mean.specs.CallMeaning.{answer, any_unknown, leftmost_trap, unless_trapped}
 use Rattle.mpl_mean.specs.Layout.{Function, Member}
 use Rattle.mpl_mean.specs.StatementMeaning.{Effect, nothing, while_loop}
-use Rattle.mpl_mean.specs.Store.{Store, Outcome, Goes, Returns, Ends, Doing, Variable, ◌>>=◌, ◌>>◌, and_then, stop, spend, trap, only_oldest, in_scope}
+use Rattle.mpl_mean.specs.Store.{Store, Outcome, Goes, Returns, Ends, Doing, ◌>>=◌, ◌>>◌, and_then, stop, spend, trap, only_oldest, in_scope}
 use Rattle.mpl_mean.specs.Values.{Value, is_true}
-use Rattle.mpl_value.specs.declared.known.TrapKind.TheVariants.{NoReply}
-use Rattle.mpl_mean.proofs.Simulation.{Same, VariableBeside, MaybeBeside}
+use Rattle.mpl_mean.proofs.ComesBack.{after_plain, after_regular}
 
 abbrev pub is_spent_end : BodyEnd → Bool
 is_spent_end end.Done = false
@@ -94,15 +91,6 @@ answer_of false trap f g h r = unless_agrees trap f g r
 pub answer_agrees : (args : List Arg) (f g : Doing Arg) → Agrees f g → Agrees (answer args f) (answer args g)
 answer_agrees args f g r = answer_of (any_unknown args) (leftmost_trap args) f g _ r
 
--- how a plain function comes back, and a regular member
-abbrev pub after_plain : Function → Store → Outcome (Unit {0}) → Outcome (List ℤ)
-after_plain f store (Goes value after) = trap NoReply f.body.mark_line (with_variables store.variables after)
-after_plain f store (Returns words after) = Goes words (with_variables store.variables after)
-after_plain f store (Ends e after) = Ends e (with_variables store.variables after)
-
-abbrev pub after_regular : Member → Store → Outcome (Unit {0}) → Outcome Arg
-after_regular m store outcome = back_with (store_of outcome).turns (member_end m outcome) store
-
 pub spent_in_plain : (f : Function) (store : Store) (o : Outcome (Unit {0})) → is_spent (after_plain f store o) ≡ false → is_spent o ≡ false
 spent_in_plain f store (Goes value after) i = refl
 spent_in_plain f store (Returns words after) i = refl
@@ -115,13 +103,3 @@ spent_in_regular m store (Ends end.Done after) i = refl
 spent_in_regular m store (Ends (end.Trap t) after) i = refl
 spent_in_regular m store (Ends end.Waits after) i = refl
 spent_in_regular m store (Ends end.Spent after) i = i
-
--- ---- what is the same stands beside itself
-
-pub maybe_itself : (v : Option Variable) → MaybeBeside (VariableBeside Same) v v
-maybe_itself None = tt
-maybe_itself (Some v) = record { same = refl; holds = refl }
-
-pub zip_itself : {A : Type 0} (R : A → A → Type 0) → ((a : A) → R a a) → (xs : List A) → AllZip R xs xs
-zip_itself R r [] = tt
-zip_itself R r (x ∷ xs) = (r x, zip_itself R r xs)
