@@ -1,23 +1,18 @@
 -- How a body called in place comes back in a run with more replies follows how it comes back in one with fewer.
-use Rattle.std.proofs.Common.{◌≡◌, ℕ, ◌≤◌, List, [], ℤ, refl, ap, subst, le_trans}
-use Rattle.mpl_ast.specs.declared.class.ResultType.{ResultType}
-use Rattle.mpl_ast.specs.declared.class.ResultType.TheVariants.{Void, Typed}
+use Rattle.std.proofs.Common.{ℕ, ◌≤◌, List, [], ℤ, refl, ap, le_trans}
 use Rattle.mpl_value.specs.declared.body.Arg.TheVariants.{Unknown}
-use Rattle.mpl_value.specs.declared.body.BodyEnd.{BodyEnd}
 use Rattle.mpl_value.specs.declared.body.BodyEnd.TheVariants as end
-use Rattle.mpl_value.specs.declared.body.BodyResult.{BodyResult}
-use Rattle.mpl_value.specs.declared.body.BodyResult.TheVariants as result
-use Rattle.mpl_value.specs.declared.known.Known.{Known}
-use Rattle.mpl_mean.specs.BodyMeaning.{arg_of_result, formals_holding, member_end, plain_body, regular_body, result_at, result_at_end, run, store_with, with_variables}
+use Rattle.mpl_mean.specs.BodyMeaning.{formals_holding, plain_body, regular_body, run, store_with, with_variables}
 use Rattle.mpl_mean.specs.Context.{Context}
 use Rattle.mpl_mean.specs.Layout.{Function, Member}
-use Rattle.mpl_mean.specs.MoreReplies.{Stays, ResultStays}
+use Rattle.mpl_mean.specs.MoreReplies.{Stays}
 use Rattle.mpl_mean.specs.Store.{Store, Outcome, Goes, Returns, Ends, Variable}
 use Rattle.mpl_mean.proofs.ComesBack.{after_plain, after_regular}
 use Rattle.mpl_mean.proofs.Simulation.{Same}
-use Rattle.mpl_mean.proofs.Later.{Later, Beside, ResultBeside, Stays-itself, variables_itself}
+use Rattle.mpl_mean.proofs.Later.{Later, Beside, variables_itself}
 use Rattle.mpl_mean.proofs.Follows.{Follows, goes, returns, ends, waited, first_spent, second_spent, Step, store_after, later_turns}
 use Rattle.mpl_mean.proofs.FollowsCalls.{Answers}
+use Rattle.mpl_mean.proofs.ResultsAtEnd.{arg_stays, ended_stays, stopped_stays, waited_stays}
 
 -- ---- plain functions
 
@@ -69,33 +64,6 @@ plain_step x y f arguments r = record {
 
 -- ---- regular members
 
-ended_beside : (type : ResultType) (line : ℕ) (r q : BodyResult) → ResultBeside r q → Stays (arg_of_result (result_at_end type line r)) (arg_of_result (result_at_end type line q))
-ended_beside type line result.Open q h = subst (λ q. Stays (arg_of_result (result_at_end type line result.Open)) (arg_of_result (result_at_end type line q))) h (Stays-itself _)
-ended_beside type line (result.Known known) q h =
-    subst (λ q. Stays (arg_of_result (result_at_end type line (result.Known known))) (arg_of_result (result_at_end type line q))) h (Stays-itself _)
-ended_beside (Void at) line result.Unknown q h = tt
-ended_beside (Typed at type) line result.Unknown q h = tt
-
-stopped_beside : (e : BodyEnd) (r q : BodyResult) → ResultBeside r q → Stays (arg_of_result (result_at e r)) (arg_of_result (result_at e q))
-stopped_beside e result.Open q h = subst (λ q. Stays (arg_of_result (result_at e result.Open)) (arg_of_result (result_at e q))) h (Stays-itself _)
-stopped_beside e (result.Known known) q h = subst (λ q. Stays (arg_of_result (result_at e (result.Known known))) (arg_of_result (result_at e q))) h (Stays-itself _)
-stopped_beside end.Done result.Unknown q h = tt
-stopped_beside (end.Trap t) result.Unknown q h = tt
-stopped_beside end.Waits result.Unknown q h = tt
-stopped_beside end.Spent result.Unknown q h = tt
-
--- a known result is that of the whole body
-pub known_at_end : (m : Member) (known : Known) (p : Outcome (Unit {0})) → result.Known known ≡ (store_after p).result → result.Known known ≡ (member_end m p).1
-known_at_end m known (Goes value t) h = subst (λ r. result.Known known ≡ result_at_end m.result m.body.mark_line r) h refl
-known_at_end m known (Returns words t) h = subst (λ r. result.Known known ≡ result_at_end m.result m.body.mark_line r) h refl
-known_at_end m known (Ends e t) h = subst (λ r. result.Known known ≡ result_at e r) h refl
-
--- of a body that waits only a known result is told
-waited_stays : (m : Member) (r : BodyResult) (p : Outcome (Unit {0})) → ResultStays r (store_after p).result → Stays (arg_of_result (result_at end.Waits r)) (arg_of_result (member_end m p).1)
-waited_stays m result.Open p h = tt
-waited_stays m result.Unknown p h = tt
-waited_stays m (result.Known known) p h = subst (λ r. Stays (arg_of_result (result.Known known)) (arg_of_result r)) (known_at_end m known p h) (Stays-itself _)
-
 back_beside : (s t : Store) (n k : ℕ) → Beside s t → n ≤ k → Beside (record s { turns = n }) (record t { turns = k })
 back_beside s t n k e h = record {
   same = ap (λ (u : Store). record u { turns = k }) e.same;
@@ -106,19 +74,19 @@ back_beside s t n k e h = record {
 }
 
 waited_follows : (m : Member) (s t : Store) → Beside s t → (u : Store) (p : Outcome (Unit {0})) → Later u (store_after p) → Follows Stays (after_regular m s (Ends end.Waits u)) (after_regular m t p)
-waited_follows m s t e u (Goes value v) l = goes (waited_stays m u.result (Goes value v) l.result) (back_beside s t u.turns v.turns e l.turns)
-waited_follows m s t e u (Returns words v) l = goes (waited_stays m u.result (Returns words v) l.result) (back_beside s t u.turns v.turns e l.turns)
-waited_follows m s t e u (Ends end.Done v) l = goes (waited_stays m u.result (Ends end.Done v) l.result) (back_beside s t u.turns v.turns e l.turns)
-waited_follows m s t e u (Ends (end.Trap trap) v) l = goes (waited_stays m u.result (Ends (end.Trap trap) v) l.result) (back_beside s t u.turns v.turns e l.turns)
-waited_follows m s t e u (Ends end.Waits v) l = goes (waited_stays m u.result (Ends end.Waits v) l.result) (back_beside s t u.turns v.turns e l.turns)
+waited_follows m s t e u (Goes value v) l = goes (arg_stays _ _ (waited_stays m u.result (Goes value v) l.result)) (back_beside s t u.turns v.turns e l.turns)
+waited_follows m s t e u (Returns words v) l = goes (arg_stays _ _ (waited_stays m u.result (Returns words v) l.result)) (back_beside s t u.turns v.turns e l.turns)
+waited_follows m s t e u (Ends end.Done v) l = goes (arg_stays _ _ (waited_stays m u.result (Ends end.Done v) l.result)) (back_beside s t u.turns v.turns e l.turns)
+waited_follows m s t e u (Ends (end.Trap trap) v) l = goes (arg_stays _ _ (waited_stays m u.result (Ends (end.Trap trap) v) l.result)) (back_beside s t u.turns v.turns e l.turns)
+waited_follows m s t e u (Ends end.Waits v) l = goes (arg_stays _ _ (waited_stays m u.result (Ends end.Waits v) l.result)) (back_beside s t u.turns v.turns e l.turns)
 waited_follows m s t e u (Ends end.Spent v) l = second_spent
 
 regular_follows : (m : Member) (s t : Store) → Beside s t → (o p : Outcome (Unit {0})) → Follows Same o p → Follows Stays (after_regular m s o) (after_regular m t p)
-regular_follows m s t e o p (goes {s = u} {t = v} i h) = goes (ended_beside m.result m.body.mark_line u.result v.result h.result) (back_beside s t u.turns v.turns e h.turns)
-regular_follows m s t e o p (returns {s = u} {t = v} h) = goes (ended_beside m.result m.body.mark_line u.result v.result h.result) (back_beside s t u.turns v.turns e h.turns)
-regular_follows m s t e o p (ends {e = end.Done} {s = u} {t = v} h) = goes (stopped_beside end.Done u.result v.result h.result) (back_beside s t u.turns v.turns e h.turns)
-regular_follows m s t e o p (ends {e = end.Trap trap} {s = u} {t = v} h) = goes (stopped_beside (end.Trap trap) u.result v.result h.result) (back_beside s t u.turns v.turns e h.turns)
-regular_follows m s t e o p (ends {e = end.Waits} {s = u} {t = v} h) = goes (stopped_beside end.Waits u.result v.result h.result) (back_beside s t u.turns v.turns e h.turns)
+regular_follows m s t e o p (goes {s = u} {t = v} i h) = goes (arg_stays _ _ (ended_stays m.result m.body.mark_line u.result v.result h.result)) (back_beside s t u.turns v.turns e h.turns)
+regular_follows m s t e o p (returns {s = u} {t = v} h) = goes (arg_stays _ _ (ended_stays m.result m.body.mark_line u.result v.result h.result)) (back_beside s t u.turns v.turns e h.turns)
+regular_follows m s t e o p (ends {e = end.Done} {s = u} {t = v} h) = goes (arg_stays _ _ (stopped_stays end.Done u.result v.result h.result)) (back_beside s t u.turns v.turns e h.turns)
+regular_follows m s t e o p (ends {e = end.Trap trap} {s = u} {t = v} h) = goes (arg_stays _ _ (stopped_stays (end.Trap trap) u.result v.result h.result)) (back_beside s t u.turns v.turns e h.turns)
+regular_follows m s t e o p (ends {e = end.Waits} {s = u} {t = v} h) = goes (arg_stays _ _ (stopped_stays end.Waits u.result v.result h.result)) (back_beside s t u.turns v.turns e h.turns)
 regular_follows m s t e o p (ends {e = end.Spent} {s = u} {t = v} h) = first_spent
 regular_follows m s t e o p (waited {s = u} {p = p'} l) = waited_follows m s t e u p' l
 regular_follows m s t e o p first_spent = first_spent

@@ -11,6 +11,7 @@ mod KeptStatements
 mod Later
 mod MoreReplies
 mod MoreTurns
+mod ResultsAtEnd
 mod Simulation
 mod TokenCount
 mod UnlessSpent

@@ -1,9 +1,7 @@
 -- With more replies a yield only grows.
-use Rattle.std.proofs.Common.{◌≢◌, ℕ, zero, suc, ◌+◌, Bool, true, false, List, [], Option, Some, None, if◌then◌else◌, nat_lt, ℤ, refl, ap, subst}
+use Rattle.std.proofs.Common.{◌≢◌, ℕ, zero, suc, ◌+◌, Bool, true, false, List, [], Option, Some, None, if◌then◌else◌, nat_lt, ℤ, refl, ap}
 use Rattle.std.specs.FinMap.{FinMap, get}
 use Rattle.std.specs.Ordering.{nat_cmp}
-use Rattle.mpl_ast.specs.declared.class.ResultType.{ResultType}
-use Rattle.mpl_ast.specs.declared.class.ResultType.TheVariants.{Void, Typed}
 use Rattle.mpl_ast.specs.declared.program.Declaration.{Declaration}
 use Rattle.mpl_ast.specs.declared.program.Program.{Program}
 use Rattle.mpl_value.specs.declared.body.Arg.{Arg}
@@ -11,22 +9,22 @@ use Rattle.mpl_value.specs.declared.body.Arg.TheVariants.{Unknown}
 use Rattle.mpl_value.specs.declared.body.BodyEnd.{BodyEnd}
 use Rattle.mpl_value.specs.declared.body.BodyEnd.TheVariants as end
 use Rattle.mpl_value.specs.declared.body.BodyResult.{BodyResult}
-use Rattle.mpl_value.specs.declared.body.BodyResult.TheVariants as result
 use Rattle.mpl_value.specs.declared.body.BodyStart.{BodyStart}
 use Rattle.mpl_value.specs.declared.body.MemberId.{MemberId}
 use Rattle.mpl_value.specs.declared.known.Known.{Known}
-use Rattle.mpl_mean.specs.BodyMeaning.{below_at, body_of, context_with, formals_holding, in_class, main_statements, main_yield, member_body, member_end, member_of_classes, member_yield, result_at, result_at_end, split_words, store_of, store_with, yield_of, yield_with}
+use Rattle.mpl_mean.specs.BodyMeaning.{below_at, body_of, context_with, formals_holding, in_class, main_statements, main_yield, member_body, member_of_classes, member_yield, split_words, store_of, store_with, yield_of, yield_with}
 use Rattle.mpl_mean.specs.Context.{Context}
 use Rattle.mpl_mean.specs.Layout.{Class, Member, classes_of}
 use Rattle.mpl_mean.specs.MoreReplies.{AreAmong, Grows, ResultStays, Stays}
 use Rattle.mpl_mean.specs.Store.{Store, Outcome, Goes, Returns, Ends, ◌>>◌, and_then, spend, stop}
 use Rattle.mpl_mean.proofs.Simulation.{Simulation, BelowBeside, Same, zip_itself}
 use Rattle.mpl_mean.proofs.KeptStatements.{run_kept}
-use Rattle.mpl_mean.proofs.Later.{Later, Later-itself, Beside, Beside-itself, Beside-later, ResultBeside, ResultBeside-stays, ResultStays-itself, Stays-itself}
+use Rattle.mpl_mean.proofs.Later.{Later, Later-itself, Beside, Beside-itself, Beside-later, ResultBeside-stays, Stays-itself}
 use Rattle.mpl_mean.proofs.Follows.{Follows, goes, returns, ends, waited, first_spent, second_spent, Step, store_after, then_step, gives_step, stops_step, spend_step, force_step, scope_step}
 use Rattle.mpl_mean.proofs.FollowsStores.{looks_step, state_step, restates_step, holds_step, declares_step, prints_step, inputs_step, makes_step, creates_step, results_step}
 use Rattle.mpl_mean.proofs.FollowsCalls.{Answers, reply_stays, answer_step, loop_step}
-use Rattle.mpl_mean.proofs.FollowsBodies.{plain_step, regular_step, known_at_end}
+use Rattle.mpl_mean.proofs.FollowsBodies.{plain_step, regular_step}
+use Rattle.mpl_mean.proofs.ResultsAtEnd.{ended_stays, stopped_stays, waited_stays}
 
 abbrev by_replies : (n : ℕ) (replies more : FinMap nat_cmp Known) → AreAmong replies more → Simulation
 by_replies n replies more among = record {
@@ -131,26 +129,6 @@ main_grows o p (ends {e = b} {s = s} {t = t} e) first second = grown_beside b s.
 main_grows o p (waited {s = s} {p = p'} l) first second = waited_main s p' l
 main_grows o p first_spent first second = absurd (first refl)
 main_grows o p second_spent first second = absurd (second refl)
-
-ended_stays : (type : ResultType) (line : ℕ) (r q : BodyResult) → ResultBeside r q → ResultStays (result_at_end type line r) (result_at_end type line q)
-ended_stays type line result.Open q h = subst (λ q. ResultStays (result_at_end type line result.Open) (result_at_end type line q)) h (ResultStays-itself _)
-ended_stays type line (result.Known known) q h =
-    subst (λ q. ResultStays (result_at_end type line (result.Known known)) (result_at_end type line q)) h refl
-ended_stays (Void at) line result.Unknown q h = tt
-ended_stays (Typed at type) line result.Unknown q h = tt
-
-stopped_stays : (e : BodyEnd) (r q : BodyResult) → ResultBeside r q → ResultStays (result_at e r) (result_at e q)
-stopped_stays e result.Open q h = subst (λ q. ResultStays (result_at e result.Open) (result_at e q)) h (ResultStays-itself _)
-stopped_stays e (result.Known known) q h = subst (λ q. ResultStays (result_at e (result.Known known)) (result_at e q)) h refl
-stopped_stays end.Done result.Unknown q h = tt
-stopped_stays (end.Trap t) result.Unknown q h = tt
-stopped_stays end.Waits result.Unknown q h = tt
-stopped_stays end.Spent result.Unknown q h = tt
-
-waited_stays : (m : Member) (r : BodyResult) (p : Outcome (Unit {0})) → ResultStays r (store_after p).result → ResultStays (result_at end.Waits r) (member_end m p).1
-waited_stays m result.Open p h = tt
-waited_stays m (result.Known known) p h = known_at_end m known p h
-waited_stays m result.Unknown p h = tt
 
 member_grows : (m : Member) (o p : Outcome (Unit {0})) → Follows Same o p → (member_yield m o).end ≢ end.Spent → (member_yield m p).end ≢ end.Spent
     → Grows (member_yield m o) (member_yield m p)
