@@ -16,3 +16,4 @@ pub mod CallMeaning
 pub mod StatementMeaning
 pub mod BodyMeaning
 pub mod DirectRun
+pub mod MoreReplies

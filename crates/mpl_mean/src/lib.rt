@@ -3,4 +3,4 @@
 
 mod laws;
 
-pub use laws::tokens_are_few;
+pub use laws::{more_replies_only_add, more_turns_change_nothing, tokens_are_few};
