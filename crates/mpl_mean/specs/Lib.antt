@@ -16,3 +16,10 @@ pub mod CallMeaning
 pub mod StatementMeaning
 pub mod BodyMeaning
 pub mod DirectRun
+pub mod Phrases
+pub mod Types
+pub mod Scopes
+pub mod Typing
+pub mod Nodes
+pub mod StatementNodes
+pub mod ProgramNodes
