@@ -17,9 +17,17 @@ pub mod StatementMeaning
 pub mod BodyMeaning
 pub mod DirectRun
 pub mod Phrases
+pub mod Actions
 pub mod Types
 pub mod Scopes
 pub mod Typing
 pub mod Nodes
 pub mod StatementNodes
 pub mod ProgramNodes
+pub mod NameRules
+pub mod SizeRules
+pub mod ClassRules
+pub mod ExpressionRules
+pub mod CallRules
+pub mod StatementRules
+pub mod Rules

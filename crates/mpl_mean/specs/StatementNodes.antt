@@ -1,25 +1,14 @@
 -- The nodes of statements that the type rules speak of, in the scopes of the blocks around them.
-use Rattle.std.specs.Prelude.{ℕ, Bool, true, false, ◌&&◌, List, [], ◌∷◌, ◌++◌, map, flat_map, Option, Some, None}
-use Rattle.std.specs.Option.{option_map}
+use Rattle.std.specs.Prelude.{ℕ, Bool, true, false, ◌&&◌, is_none, List, [], ◌∷◌, ◌++◌, flat_map, Option, Some, None}
 use Rattle.std.specs.List.{list_all}
-use Rattle.mpl_ast.specs.declared.expression.Expression.{Expression}
-use Rattle.mpl_ast.specs.declared.expression.Target.{Target}
-use Rattle.mpl_ast.specs.declared.flow.Assignment.{Assignment}
-use Rattle.mpl_ast.specs.declared.statement.Block.{Block, Block-F}
-use Rattle.mpl_ast.specs.declared.statement.Declarator.{Declarator}
-use Rattle.mpl_ast.specs.declared.statement.Declarator.TheVariants.{Plain, Initialized}
 use Rattle.mpl_ast.specs.declared.statement.Dimension.{Dimension}
-use Rattle.mpl_ast.specs.declared.statement.ForHead.{ForHead}
-use Rattle.mpl_ast.specs.declared.statement.ForStart.{ForStart}
-use Rattle.mpl_ast.specs.declared.statement.ForStart.TheVariants.{Declare, Assign}
-use Rattle.mpl_ast.specs.declared.statement.Local.{Local}
-use Rattle.mpl_ast.specs.declared.statement.Statement.{Statement, fold-Statement}
-use Rattle.mpl_ast.specs.declared.statement.Statement.TheOpen.{Statement-F}
 use Rattle.mpl_ast.specs.declared.statement.TypeName.{TypeName}
 use Rattle.mpl_ast.specs.declared.statement.TypeName.TheVariants as type
-use Rattle.mpl_mean.specs.Nodes.{Placed, place, phrase_nodes, statement_call_nodes, target_nodes}
+use Rattle.mpl_mean.specs.Actions.{Action, Actions, NewLocal}
+use Rattle.mpl_mean.specs.Actions as action
+use Rattle.mpl_mean.specs.Nodes.{Node, Placed, place, phrase_nodes, statement_call_nodes, target_nodes}
 use Rattle.mpl_mean.specs.Nodes as node
-use Rattle.mpl_mean.specs.Phrases.{Phrase, begins, phrase_of, phrase_of_place, phrase_of_flow, phrase_of_call}
+use Rattle.mpl_mean.specs.Phrases.{Phrase, begins}
 use Rattle.mpl_mean.specs.Scopes.{Here, in_block, behind, names_beside}
 use Rattle.mpl_mean.specs.Types.{Declared, Role, AsLocal}
 
@@ -51,14 +40,6 @@ declares d here = record { nodes = []; after = behind d here }
 abbrev pub scoped : Walks → Walks
 scoped a here = record { nodes = (a (in_block here)).nodes; after = here }
 
-abbrev pub in_order : List Walks → Walks
-in_order [] = no_node
-in_order (a ∷ all) = a ⨾ in_order all
-
-abbrev pub if_any : Option Walks → Walks
-if_any None = no_node
-if_any (Some a) = a
-
 -- ---- the parts of statements
 
 abbrev pub type_at : TypeName → ℕ
@@ -66,105 +47,76 @@ type_at (type.Int at) = at.span.from
 type_at (type.Bool at) = at.span.from
 type_at (type.Named at name) = name.from
 
+abbrev pub type_nodes : Role → Bool → TypeName → Here → List Placed
+type_nodes role bare type here = place (type_at type) here (node.UsedType role bare type) ∷ []
+
 abbrev pub dimension_nodes : Here → TypeName → Option Dimension → List Placed
 dimension_nodes here type None = []
 dimension_nodes here type (Some dimension) = place dimension.number.from here (node.ADimension type dimension.number.value) ∷ []
 
-abbrev pub flow_walk : Phrase → Walks
-flow_walk value = with_nodes (λ here. phrase_nodes here value)
+abbrev pub phrase_walk : Phrase → Walks
+phrase_walk phrase here = record { nodes = phrase_nodes here phrase; after = here }
 
-abbrev pub expression_walk : Expression → Walks
-expression_walk e = flow_walk (phrase_of e)
+abbrev pub phrases_if_any : Option Phrase → Walks
+phrases_if_any None = no_node
+phrases_if_any (Some phrase) = phrase_walk phrase
 
-abbrev pub test_walk : Phrase → Walks
-test_walk test = with_nodes (λ here. place (begins test) here (node.ATest test) ∷ phrase_nodes here test)
+-- one node
+abbrev pub one : ℕ → Node → Walks
+one at node here = record { nodes = place at here node ∷ []; after = here }
 
-abbrev pub printed_walk : Phrase → Walks
-printed_walk argument = with_nodes (λ here. place (begins argument) here (node.Printed argument) ∷ phrase_nodes here argument)
-
-abbrev pub assigned_walk : ℕ → Phrase → Phrase → Walks
-assigned_walk at target value = with_nodes (λ here. place at here (node.Assigned target value) ∷ phrase_nodes here target ++ phrase_nodes here value)
-
-abbrev pub assignment_walk : Assignment → Walks
-assignment_walk a = assigned_walk a.at.span.from (phrase_of_place a.place) (phrase_of_flow a.value)
+abbrev pub print_walk : List Phrase → Walks
+print_walk [] = no_node
+print_walk (argument ∷ others) = one (begins argument) (node.Printed argument) ⨾ phrase_walk argument ⨾ print_walk others
 
 -- ---- locals
 
-abbrev pub local_nodes : Here → ℕ → Declared → Option Phrase → List Placed
-local_nodes here at d initialiser =
-    place at here (node.NewName d.name (names_beside here)) ∷ place at here (node.ALocal d initialiser) ∷ dimension_nodes here d.type d.dimension
+abbrev pub declared_local : TypeName → NewLocal → Declared
+declared_local type new = record { role = AsLocal; name = new.name.text; type = type; dimension = new.dimension }
 
--- a local is in scope behind its declarator
-abbrev pub declarator_walk : TypeName → Declarator → Walks
-declarator_walk type (Plain at variable dimension) =
-    let d : Declared = record { role = AsLocal; name = variable.text; type = type; dimension = dimension } in
-    with_nodes (λ here. local_nodes here variable.from d None) ⨾ declares d
-declarator_walk type (Initialized at variable value) =
-    let d : Declared = record { role = AsLocal; name = variable.text; type = type; dimension = None } in
-    with_nodes (λ here. local_nodes here variable.from d (Some (phrase_of_flow value))) ⨾ flow_walk (phrase_of_flow value) ⨾ declares d
+-- a local is in scope behind its declarator, and not in its own initialiser
+abbrev pub local_walk : TypeName → NewLocal → Walks
+local_walk type new =
+    with_nodes (λ here. place new.name.from here (node.NewName new.name.text (names_beside here)) ∷ dimension_nodes here type new.dimension)
+    ⨾ one new.name.from (node.ALocal (declared_local type new) new.initialiser)
+    ⨾ phrases_if_any new.initialiser
+    ⨾ declares (declared_local type new)
 
-abbrev pub is_bare : Declarator → Bool
-is_bare (Plain at variable None) = true
-is_bare (Plain at variable (Some dimension)) = false
-is_bare (Initialized at variable value) = false
+abbrev pub locals_walk : TypeName → List NewLocal → Walks
+locals_walk type [] = no_node
+locals_walk type (new ∷ others) = local_walk type new ⨾ locals_walk type others
 
-abbrev pub type_nodes : Role → Bool → TypeName → Here → List Placed
-type_nodes role bare type here = place (type_at type) here (node.UsedType role bare type) ∷ []
-
-abbrev pub local_walk : Local → Walks
-local_walk l = with_nodes (type_nodes AsLocal (list_all is_bare l.declarators) l.type_name) ⨾ in_order (map (declarator_walk l.type_name) l.declarators)
+-- without dimension and initialiser
+abbrev pub is_bare : NewLocal → Bool
+is_bare new = is_none new.dimension && is_none new.initialiser
 
 -- ---- statements
 
-abbrev pub for_start_walk : ForStart → Walks
-for_start_walk (Declare local) = local_walk local
-for_start_walk (Assign assignment) = assignment_walk assignment
+-- The statement of a loop or branch is a scope of its own, also where it is a single local, and a `for` opens a block.
+abbrev mutual
+  pub action_walk : Action → Walks
+  action_walk action.Nothing = no_node
+  action_walk (action.Within actions) = scoped (actions_walk actions)
+  action_walk (action.Locals type locals) = with_nodes (type_nodes AsLocal (list_all is_bare locals) type) ⨾ locals_walk type locals
+  action_walk (action.Assigns at target value) = one at (node.Assigned target value) ⨾ phrase_walk target ⨾ phrase_walk value
+  action_walk (action.Calls call) = with_nodes (λ here. statement_call_nodes here call)
+  action_walk (action.Creates at target) = one at (node.ACreate target) ⨾ with_nodes (λ here. target_nodes here target)
+  action_walk (action.Branches test then_part else_part) =
+      one (begins test) (node.ATest test) ⨾ phrase_walk test ⨾ scoped (action_walk then_part) ⨾ scoped (action_walk else_part)
+  action_walk (action.Repeats test body) = one (begins test) (node.ATest test) ⨾ phrase_walk test ⨾ scoped (action_walk body)
+  action_walk (action.Loops start test step body) =
+      scoped (action_walk start ⨾ one (begins test) (node.ATest test) ⨾ phrase_walk test ⨾ action_walk step ⨾ scoped (action_walk body))
+  action_walk (action.Prints at arguments) = one at node.APrint ⨾ print_walk arguments
+  action_walk (action.Gives at value) = one at (node.AnRtf value) ⨾ phrase_walk value
+  action_walk (action.Returns at value) = one at (node.AReturn value) ⨾ phrases_if_any value
 
-abbrev pub for_head_walk : ForHead → Walks
-for_head_walk head =
-    if_any (option_map for_start_walk head.start) ⨾ test_walk (phrase_of head.test) ⨾ if_any (option_map assignment_walk head.step)
-
-abbrev pub create_walk : ℕ → Target → Walks
-create_walk at target = with_nodes (λ here. place at here (node.ACreate target) ∷ target_nodes here target)
-
-abbrev pub rtf_walk : ℕ → Phrase → Walks
-rtf_walk at value = with_nodes (λ here. place at here (node.AnRtf value) ∷ phrase_nodes here value)
-
-abbrev pub return_walk : ℕ → Option Phrase → Walks
-return_walk at value = with_nodes (λ here. place at here (node.AReturn value) ∷ []) ⨾ if_any (option_map flow_walk value)
-
-abbrev pub print_walk : ℕ → List Phrase → Walks
-print_walk at arguments = with_nodes (λ here. place at here node.APrint ∷ []) ⨾ in_order (map printed_walk arguments)
-
-abbrev pub block_step : Block-F Walks Walks → Walks
-block_step b = scoped (in_order b.statements)
-
--- the statement of a loop or branch is a scope of its own, also where it is a single local
-abbrev pub statement_step : Statement-F Walks Walks → Walks
-statement_step (Statement-F.OfBlock at block) = block
-statement_step (Statement-F.Declare at local) = local_walk local
-statement_step (Statement-F.Assign at assignment) = assignment_walk assignment
-statement_step (Statement-F.CallAlone at call) = with_nodes (λ here. statement_call_nodes here (phrase_of_call call))
-statement_step (Statement-F.Create at target) = create_walk at.span.from target
-statement_step (Statement-F.If at test then_part else_part) =
-    test_walk (phrase_of test) ⨾ scoped then_part ⨾ if_any (option_map scoped else_part)
-statement_step (Statement-F.While at test body) = test_walk (phrase_of test) ⨾ scoped body
-statement_step (Statement-F.For at head body) = scoped (for_head_walk head ⨾ scoped body)
-statement_step (Statement-F.Print at arguments) = print_walk at.span.from (map phrase_of arguments)
-statement_step (Statement-F.Rtf at value) = rtf_walk at.span.from (phrase_of_flow value)
-statement_step (Statement-F.Return at value) = return_walk at.span.from (option_map phrase_of value)
-statement_step (Statement-F.Empty at) = no_node
-
-abbrev pub statement_walk : Statement → Walks
-statement_walk = fold-Statement Walks Walks statement_step block_step
-
--- the statements of a function or member, whose outermost block is open
-abbrev pub body_walk : Block → Walks
-body_walk b = in_order (map statement_walk b.statements)
+  pub actions_walk : Actions → Walks
+  actions_walk action.NoAction = no_node
+  actions_walk (action.MoreActions first others) = action_walk first ⨾ actions_walk others
 
 -- ---- the locals among nodes
 
-abbrev pub local_of : node.Node → List Declared
+abbrev pub local_of : Node → List Declared
 local_of (node.ALocal d initialiser) = d ∷ []
 local_of other = []
 
