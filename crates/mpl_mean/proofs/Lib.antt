@@ -1,3 +1,12 @@
 mod TokenCount
 mod WorkedRun
 mod WorkedTokens
+mod Shown
+mod Expressions
+mod Programs
+mod WorkedNames
+mod WorkedDeclarations
+mod WorkedClasses
+mod WorkedOperands
+mod WorkedCalls
+mod WorkedStatements
