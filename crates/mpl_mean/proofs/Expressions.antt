@@ -10,9 +10,11 @@ use Rattle.mpl_ast.specs.declared.expression.Place.{Place, roll-Place, fold-roll
 use Rattle.mpl_ast.specs.declared.expression.Primary.{Primary, roll-Primary, fold-Primary, fold-roll-Primary}
 use Rattle.mpl_ast.specs.declared.expression.Relation.{Relation, roll-Relation, fold-Relation, fold-roll-Relation}
 use Rattle.mpl_ast.specs.declared.expression.Sum.{Sum, roll-Sum, fold-Sum, fold-roll-Sum}
-use Rattle.mpl_ast.specs.declared.expression.SumOperator.TheVariants.{Plus}
+use Rattle.mpl_ast.specs.declared.expression.SumOperator.TheVariants.{Plus, Minus}
 use Rattle.mpl_ast.specs.declared.expression.Term.{Term, roll-Term, fold-Term, fold-roll-Term}
-use Rattle.mpl_ast.specs.declared.expression.Unary.{Unary, roll-Unary, fold-roll-Unary}
+use Rattle.mpl_ast.specs.declared.expression.TermOperator.TheVariants.{Times}
+use Rattle.mpl_ast.specs.declared.expression.Unary.{Unary, roll-Unary, fold-Unary, fold-roll-Unary}
+use Rattle.mpl_ast.specs.declared.expression.UnaryOperator.TheVariants.{Not}
 use Rattle.mpl_ast.specs.declared.expression.EqualityOperator.TheVariants.{Equal}
 use Rattle.mpl_ast.specs.declared.expression.RelationOperator.TheVariants.{Less}
 use Rattle.mpl_ast.specs.declared.expression.Conjunction.TheOpen.{Conjunction-F, Equality-F, Expression-F, Place-F, Primary-F, Relation-F, Sum-F, Term-F, Unary-F}
@@ -54,19 +56,28 @@ abbrev pub phrase_of_term : Term → Phrase
 phrase_of_term = fold-Term Phrase Phrase Phrase Phrase Phrase Phrase Phrase Phrase Phrase
     conjunction_step equality_step expression_step place_step primary_step relation_step sum_step term_step unary_step
 
+abbrev pub phrase_of_unary : Unary → Phrase
+phrase_of_unary = fold-Unary Phrase Phrase Phrase Phrase Phrase Phrase Phrase Phrase Phrase
+    conjunction_step equality_step expression_step place_step primary_step relation_step sum_step term_step unary_step
+
 abbrev pub phrase_of_primary : Primary → Phrase
 phrase_of_primary = fold-Primary Phrase Phrase Phrase Phrase Phrase Phrase Phrase Phrase Phrase
     conjunction_step equality_step expression_step place_step primary_step relation_step sum_step term_step unary_step
 
+abbrev pub as_unary : ℕ → Shown phrase_of_primary → Shown phrase_of_unary
+as_unary from p = record { tree = roll-Unary (Unary-F.OnePrimary (at from) p.tree); seen = p.seen; is = simp (layers, p.is) }
+
+abbrev pub in_term : ℕ → Shown phrase_of_unary → Shown phrase_of_term
+in_term from u = record { tree = roll-Term (Term-F.OneUnary (at from) u.tree); seen = u.seen; is = simp (layers, u.is) }
+
 abbrev pub as_term : ℕ → Shown phrase_of_primary → Shown phrase_of_term
-as_term from p = record {
-  tree = roll-Term (Term-F.OneUnary (at from) (roll-Unary (Unary-F.OnePrimary (at from) p.tree)));
-  seen = p.seen;
-  is = simp (layers, p.is);
-}
+as_term from p = in_term from (as_unary from p)
+
+abbrev pub to_sum : ℕ → Shown phrase_of_term → Shown phrase_of_sum
+to_sum from t = record { tree = roll-Sum (Sum-F.OneTerm (at from) t.tree); seen = t.seen; is = simp (layers, t.is) }
 
 abbrev pub as_sum : ℕ → Shown phrase_of_primary → Shown phrase_of_sum
-as_sum from p = let t = as_term from p in record { tree = roll-Sum (Sum-F.OneTerm (at from) t.tree); seen = p.seen; is = simp (layers, p.is) }
+as_sum from p = to_sum from (as_term from p)
 
 abbrev pub as_relation : ℕ → Shown phrase_of_primary → Shown phrase_of_relation
 as_relation from p =
@@ -145,6 +156,30 @@ plus from left right = record {
   tree = roll-Sum (Sum-F.Add (at from) 1 left.tree Plus right.tree);
   seen = phrase.Binary from phrase.Arithmetic left.seen right.seen;
   is = simp (layers, left.is, right.is);
+}
+
+-- `left - right`
+abbrev pub minus : ℕ → Shown phrase_of_sum → Shown phrase_of_term → Shown phrase_of_sum
+minus from left right = record {
+  tree = roll-Sum (Sum-F.Add (at from) 1 left.tree Minus right.tree);
+  seen = phrase.Binary from phrase.Arithmetic left.seen right.seen;
+  is = simp (layers, left.is, right.is);
+}
+
+-- `left * right`
+abbrev pub times : ℕ → Shown phrase_of_term → Shown phrase_of_unary → Shown phrase_of_term
+times from left right = record {
+  tree = roll-Term (Term-F.Multiply (at from) 1 left.tree Times right.tree);
+  seen = phrase.Binary from phrase.Arithmetic left.seen right.seen;
+  is = simp (layers, left.is, right.is);
+}
+
+-- `!operand`
+abbrev pub negated : ℕ → Shown phrase_of_unary → Shown phrase_of_unary
+negated from operand = record {
+  tree = roll-Unary (Unary-F.Apply (at from) 1 Not operand.tree);
+  seen = phrase.Unary from phrase.Logic operand.seen;
+  is = simp (layers, operand.is);
 }
 
 -- `left < right`

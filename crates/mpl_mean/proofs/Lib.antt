@@ -10,3 +10,5 @@ mod WorkedClasses
 mod WorkedOperands
 mod WorkedCalls
 mod WorkedStatements
+mod WorkedPrograms
+mod WorkedLimits

@@ -116,15 +116,35 @@ when from test then_part = record {
   is = simp (fold-roll-Statement, test.is, then_part.is);
 }
 
+abbrev pub when_else : ℕ → Shown phrase_of → Shown action_of → Shown action_of → Shown action_of
+when_else from test then_part else_part = record {
+  tree = roll-Statement (Statement-F.If (at from) test.tree then_part.tree (Some else_part.tree));
+  seen = action.Branches test.seen then_part.seen else_part.seen;
+  is = simp (fold-roll-Statement, test.is, then_part.is, else_part.is);
+}
+
 pub same_loop : {start start' step step' body body' : Action} {test test' : Phrase} → start ≡ start' → test ≡ test' → step ≡ step' → body ≡ body'
     → action.Loops start test step body ≡ action.Loops start' test' step' body'
 same_loop a b c d = cc
 
-abbrev pub loop : ℕ → Shown action.locals → Shown phrase_of → Shown assigns → Shown action_of → Shown action_of
+abbrev pub starting : Shown action.locals → Shown starts
+starting l = record { tree = for.Declare l.tree; seen = l.seen; is = l.is }
+
+abbrev pub starting_with : Shown assigns → Shown starts
+starting_with a = record { tree = for.Assign a.tree; seen = a.seen; is = a.is }
+
+abbrev pub loop : ℕ → Shown starts → Shown phrase_of → Shown assigns → Shown action_of → Shown action_of
 loop from start test step body = record {
-  tree = roll-Statement (Statement-F.For (at from) (record { start = Some (for.Declare start.tree); test = test.tree; step = Some step.tree }) body.tree);
+  tree = roll-Statement (Statement-F.For (at from) (record { start = Some start.tree; test = test.tree; step = Some step.tree }) body.tree);
   seen = action.Loops start.seen test.seen step.seen body.seen;
   is = simp fold-roll-Statement (same_loop start.is test.is step.is body.is);
+}
+
+abbrev pub repeat : ℕ → Shown phrase_of → Shown action_of → Shown action_of
+repeat from test body = record {
+  tree = roll-Statement (Statement-F.While (at from) test.tree body.tree);
+  seen = action.Repeats test.seen body.seen;
+  is = simp (fold-roll-Statement, test.is, body.is);
 }
 
 abbrev pub print : ℕ → List (Shown phrase_of) → Shown action_of
