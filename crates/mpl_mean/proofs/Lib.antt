@@ -12,3 +12,4 @@ mod WorkedCalls
 mod WorkedStatements
 mod WorkedPrograms
 mod WorkedLimits
+mod LeastFailure

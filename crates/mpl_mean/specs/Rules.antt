@@ -1,5 +1,5 @@
 -- The type rules by their numbers, where each fails, and which programs are well typed.
-use Rattle.std.specs.Prelude.{ℕ, Bool, true, false, not, ◌&&◌, ◌||◌, ◌==◌, nat_lt, List, [], ◌∷◌, ◌++◌, map, flat_map, filter, Option, Some, None, if◌then◌else◌}
+use Rattle.std.specs.Prelude.{◌≡◌, ◌<◌, ◌≤◌, ◌⊎◌, ℕ, Bool, true, false, not, ◌&&◌, ◌||◌, ◌==◌, nat_lt, List, [], ◌∷◌, ◌++◌, map, flat_map, filter, Option, Some, None, if◌then◌else◌}
 use Rattle.std.specs.List.{list_all, list_any}
 use Rattle.mpl_ast.specs.declared.program.Program.{Program}
 use Rattle.mpl_mean.specs.CallRules.{plain_call_fits, member_call_fits, void_call_is_alone, call_is_in_place, self_is_in_place}
@@ -71,9 +71,12 @@ failures_of some p = failures_among some (nodes p)
 abbrev pub failures : Program → List Failure
 failures = failures_of rules
 
+abbrev pub is_failure : ℕ → ℕ → Failure → Bool
+is_failure number at f = (f.rule == number) && (f.at == at)
+
 -- the rule of this number fails at a node that begins at this byte
 abbrev pub fails : Program → ℕ → ℕ → Bool
-fails p number at = list_any (λ (f : Failure). (f.rule == number) && (f.at == at)) (failures p)
+fails p number at = list_any (is_failure number at) (failures p)
 
 -- ---- the least failure
 
@@ -92,6 +95,10 @@ least (f ∷ others) = Some (lesser f (least others))
 -- what a refusal says, where there is one
 abbrev pub least_failure : Program → Option Failure
 least_failure p = least (failures p)
+
+-- the first is the second, or comes before it
+abbrev pub IsNotBehind : Failure → Failure → Type 0
+IsNotBehind a b = (a.at < b.at) ⊎ ((a.at ≡ b.at) × (a.rule ≤ b.rule))
 
 -- ---- well typed
 

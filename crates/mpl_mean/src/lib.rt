@@ -1,6 +1,7 @@
-//! The meaning of the language: which text a program has, and what it does. Definitions, and laws about them.
+//! The meaning of the language: which text a program has, which programs are well typed, and what they
+//! do. Definitions, and laws about them.
 #![tactic(auto)]
 
 mod laws;
 
-pub use laws::tokens_are_few;
+pub use laws::{refusals_are_least, tokens_are_few};
