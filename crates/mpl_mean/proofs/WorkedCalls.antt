@@ -3,8 +3,8 @@
 use Rattle.std.proofs.Common.{◌≡◌, true, [], ◌∷◌}
 use Rattle.std.specs.Prelude.{None}
 use Rattle.mpl_mean.specs.Rules.{is_typed, least_failure}
-use Rattle.mpl_mean.proofs.Expressions.{as_expression, variable, number, truth, own, plain_call, call, own_call, of_call, of_expression}
-use Rattle.mpl_mean.proofs.Programs.{Parts, program, fails, failed, held, int, named, plain, initialized, declare, call_alone, create, rtf, formal, function, main_at, field_name, fields, state, member, void, typed, regular_class, persistent_class}
+use Rattle.mpl_mean.proofs.Expressions.{as_term, as_sum, as_expression, in_sum, variable, field, number, truth, own, plain_call, plus, call, own_call, of_call, of_expression}
+use Rattle.mpl_mean.proofs.Programs.{Parts, program, fails, failed, held, int, named, plain, initialized, declare, call_alone, create, rtf, formal, function, main_at, field_name, fields, struct, state, member, void, typed, regular_class, persistent_class}
 
 -- `int f(int x) { } int main() { int y = f(); }`
 abbrev too_few : Parts
@@ -30,6 +30,24 @@ of_another_type = function 0 (int 0) 4 "f" (formal (int 6) 10 "x" ∷ []) [] ∷
 
 of_another_type_fails : least_failure (program of_another_type) ≡ fails 18 38
 of_another_type_fails = failed of_another_type
+
+-- `int f(int x, int y) { } int main() { int z = f(true, 1 + true); }`
+abbrev argument_without_type : Parts
+argument_without_type = function 0 (int 0) 4 "f" (formal (int 6) 10 "x" ∷ formal (int 13) 17 "y" ∷ []) [] ∷ main_at 24
+    (declare 37 (int 37) (initialized 41 "z" (of_expression 45 (as_expression 45 (plain_call 45 "f" (as_expression 47
+    (truth 47) ∷ in_sum 53 (plus 53 (as_sum 53 (number 53)) (as_term 57 (truth 57))) ∷ [])))) ∷ []) ∷ []) ∷ []
+
+argument_without_type_fails : least_failure (program argument_without_type) ≡ fails 13 53
+argument_without_type_fails = failed argument_without_type
+
+-- `int f(int x) { } int main() { int z = f(true, 1 + true); }`
+abbrev too_many_without_type : Parts
+too_many_without_type = function 0 (int 0) 4 "f" (formal (int 6) 10 "x" ∷ []) [] ∷ main_at 17 (declare 30 (int 30)
+    (initialized 34 "z" (of_expression 38 (as_expression 38 (plain_call 38 "f" (as_expression 40 (truth 40) ∷ in_sum
+    46 (plus 46 (as_sum 46 (number 46)) (as_term 50 (truth 50))) ∷ [])))) ∷ []) ∷ []) ∷ []
+
+too_many_without_type_fails : least_failure (program too_many_without_type) ≡ fails 18 38
+too_many_without_type_fails = failed too_many_without_type
 
 -- `regular mentat class calc { int f(int x) { } }; int main() { calc w; int y = w.f(); }`
 abbrev member_too_few : Parts
@@ -64,6 +82,15 @@ created_int = main_at 0 (declare 13 (int 13) (plain 17 "a" None ∷ []) ∷ crea
 
 created_int_fails : least_failure (program created_int) ≡ fails 19 20
 created_int_fails = failed created_int
+
+-- `struct s { int a; }; int main() { s x; int y = x.b.f(); }`
+abbrev receiver_without_field : Parts
+receiver_without_field = struct 0 7 "s" (fields 11 (int 11) (field_name 15 "a" None ∷ []) ∷ []) ∷ main_at 21 (declare
+    34 (named 34 "s") (plain 36 "x" None ∷ []) ∷ declare 39 (int 39) (initialized 43 "y" (of_call 47 (call 47 (field
+    47 "x" 49 "b") 51 "f" [])) ∷ []) ∷ []) ∷ []
+
+receiver_without_field_fails : least_failure (program receiver_without_field) ≡ fails 1 49
+receiver_without_field_fails = failed receiver_without_field
 
 -- `persistent mentat class cell { int n; void put(int x) { } int get() { } }; int main() { cell c; int y = c.put(1); }`
 abbrev passed_void : Parts

@@ -10,13 +10,13 @@ use Rattle.mpl_mean.specs.Nodes.{Node}
 use Rattle.mpl_mean.specs.Nodes as node
 use Rattle.mpl_mean.specs.Scopes.{Here, Body, NoBody, InGuard, InMain, InFunction, InMember, is_in_main, is_in_member, is_persistent, plain_function}
 use Rattle.mpl_mean.specs.Types.{ValueType, OfClass, Shape, OneValue, AnArray, ARegular}
-use Rattle.mpl_mean.specs.Typing.{target_shape, receiver_shape, member_called, formal_types, arguments_agree, types_of}
+use Rattle.mpl_mean.specs.Typing.{target_shape, receiver_shape, member_called, formal_types, arguments_fit, types_of}
 
 -- ---- rule 18
 
 abbrev pub function_takes : List Declaration → Option Function → List (Option ValueType) → Bool
 function_takes ds None arguments = true
-function_takes ds (Some function) arguments = arguments_agree arguments (formal_types ds function.formals)
+function_takes ds (Some function) arguments = arguments_fit arguments (formal_types ds function.formals)
 
 -- A plain call has as many arguments as formals, of the same types.
 abbrev pub plain_call_fits : Here → Node → Bool
@@ -37,7 +37,7 @@ can_be_called shape = is_object shape
 
 abbrev pub member_takes : List Declaration → Option Member → List (Option ValueType) → Bool
 member_takes ds None arguments = true
-member_takes ds (Some member) arguments = arguments_agree arguments (formal_types ds member.formals)
+member_takes ds (Some member) arguments = arguments_fit arguments (formal_types ds member.formals)
 
 -- The receiver of a call is `self`, a local of a regular class, or a target of a persistent class; the target of
 -- `create` is of a persistent class; arguments have the formals' number and types.

@@ -1,5 +1,6 @@
 -- The type of an expression, a place, a flow and a call. It has none where a rule that decides it fails.
-use Rattle.std.specs.Prelude.{ℕ, Bool, true, false, ◌&&◌, ◌||◌, List, [], ◌∷◌, map, Option, Some, None, if◌then◌else◌}
+use Rattle.std.specs.Prelude.{ℕ, Bool, true, false, ◌&&◌, ◌||◌, ◌==◌, List, [], ◌∷◌, map, length, is_none, Option, Some, None, if◌then◌else◌}
+use Rattle.std.specs.List.{list_any}
 use Rattle.std.specs.Option.{option_map, option_and_then}
 use Rattle.mpl_ast.specs.declared.class.Formal.{Formal}
 use Rattle.mpl_ast.specs.declared.class.Item.{Item}
@@ -111,11 +112,13 @@ type_of_call ds (Some member) = result_type ds member.result
 abbrev pub formal_types : List Declaration → List Formal → List (Option ValueType)
 formal_types ds formals = map (λ (formal : Formal). value_type AsFormal (meant ds formal.type_name)) formals
 
--- as many as formals, of the same types
-abbrev pub arguments_agree : List (Option ValueType) → List (Option ValueType) → Bool
-arguments_agree [] [] = true
-arguments_agree (argument ∷ arguments) (formal ∷ formals) = agree argument formal && arguments_agree arguments formals
-arguments_agree arguments formals = false
+abbrev pub all_agree : List (Option ValueType) → List (Option ValueType) → Bool
+all_agree (argument ∷ arguments) (formal ∷ formals) = agree argument formal && all_agree arguments formals
+all_agree arguments formals = true
+
+-- As many as formals, of the same types. Where an argument has no type, no types are compared.
+abbrev pub arguments_fit : List (Option ValueType) → List (Option ValueType) → Bool
+arguments_fit arguments formals = (length arguments == length formals) && (list_any is_none arguments || all_agree arguments formals)
 
 -- ---- the whole of it
 
