@@ -1,12 +1,12 @@
 -- Expressions, places, flows and calls of worked programs, each with what the type rules see of it. Of where a node stands
 -- only its first byte is written: the type rules ask for nothing else.
-use Rattle.std.proofs.Common.{◌≡◌, ℕ, List, [], ◌∷◌, pos}
+use Rattle.std.proofs.Common.{ℕ, List, pos}
 use Rattle.std.specs.Prelude.{codes}
 use Prim.Native.String.{String}
-use Rattle.mpl_ast.specs.declared.expression.Conjunction.{Conjunction, roll-Conjunction, fold-roll-Conjunction}
+use Rattle.mpl_ast.specs.declared.expression.Conjunction.{roll-Conjunction, fold-roll-Conjunction}
 use Rattle.mpl_ast.specs.declared.expression.Equality.{Equality, roll-Equality, fold-Equality, fold-roll-Equality}
-use Rattle.mpl_ast.specs.declared.expression.Expression.{Expression, roll-Expression, fold-roll-Expression}
-use Rattle.mpl_ast.specs.declared.expression.Place.{Place, roll-Place, fold-roll-Place}
+use Rattle.mpl_ast.specs.declared.expression.Expression.{roll-Expression, fold-roll-Expression}
+use Rattle.mpl_ast.specs.declared.expression.Place.{roll-Place, fold-roll-Place}
 use Rattle.mpl_ast.specs.declared.expression.Primary.{Primary, roll-Primary, fold-Primary, fold-roll-Primary}
 use Rattle.mpl_ast.specs.declared.expression.Relation.{Relation, roll-Relation, fold-Relation, fold-roll-Relation}
 use Rattle.mpl_ast.specs.declared.expression.Sum.{Sum, roll-Sum, fold-Sum, fold-roll-Sum}
@@ -20,8 +20,8 @@ use Rattle.mpl_ast.specs.declared.expression.RelationOperator.TheVariants.{Less}
 use Rattle.mpl_ast.specs.declared.expression.Conjunction.TheOpen.{Conjunction-F, Equality-F, Expression-F, Place-F, Primary-F, Relation-F, Sum-F, Term-F, Unary-F}
 use Rattle.mpl_ast.specs.declared.expression.Target.{Target}
 use Rattle.mpl_ast.specs.declared.expression.Target.TheVariants as target
-use Rattle.mpl_ast.specs.declared.flow.Call.{Call, roll-Call, fold-roll-Call}
-use Rattle.mpl_ast.specs.declared.flow.Flow.{Flow, roll-Flow, fold-roll-Flow}
+use Rattle.mpl_ast.specs.declared.flow.Call.{roll-Call, fold-roll-Call}
+use Rattle.mpl_ast.specs.declared.flow.Flow.{roll-Flow, fold-roll-Flow}
 use Rattle.mpl_ast.specs.declared.flow.Call.TheOpen.{Call-F, Flow-F}
 use Rattle.mpl_ast.specs.declared.place.At.{At}
 use Rattle.mpl_ast.specs.declared.place.Name.{Name}

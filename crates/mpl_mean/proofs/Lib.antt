@@ -3,6 +3,7 @@ mod WorkedRun
 mod WorkedTokens
 mod Shown
 mod Expressions
+mod Statements
 mod Programs
 mod WorkedNames
 mod WorkedDeclarations

@@ -1,11 +1,9 @@
 -- Worked trees. A tree is built together with what the type rules see of it, so that a worked program is written once.
-use Rattle.std.proofs.Common.{◌≡◌, ℕ, List, [], ◌∷◌, ◌++◌, map, refl, ap, ap₂, sym, ◌∙◌}
+use Rattle.std.proofs.Common.{◌≡◌, List, [], ◌∷◌, ◌++◌, map, refl, ap, ap₂, ◌∙◌}
 use Rattle.std.proofs.lemmas.List.{map-append}
 use Rattle.std.specs.Prelude.{flat_map, Option, Some, None}
 use Rattle.std.specs.Option.{option_map}
-use Rattle.mpl_ast.specs.declared.program.Program.{Program}
-use Rattle.mpl_mean.specs.ProgramNodes.{Inner, Inside, inners, nodes_with}
-use Rattle.mpl_mean.specs.Rules.{least, least_failure, failures_among, rules}
+use Rattle.mpl_mean.specs.ProgramNodes.{Inner, Inside}
 
 -- a tree, what is seen of it, and that it is seen
 pub record Shown {A B : Type 0} (sees : A → B) : Type 0 where

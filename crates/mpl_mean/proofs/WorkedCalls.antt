@@ -4,7 +4,8 @@ use Rattle.std.proofs.Common.{◌≡◌, true, [], ◌∷◌}
 use Rattle.std.specs.Prelude.{None}
 use Rattle.mpl_mean.specs.Rules.{is_typed, least_failure}
 use Rattle.mpl_mean.proofs.Expressions.{as_term, as_sum, as_expression, in_sum, variable, field, number, truth, own, plain_call, plus, call, own_call, of_call, of_expression}
-use Rattle.mpl_mean.proofs.Programs.{Parts, program, fails, failed, held, int, named, plain, initialized, declare, call_alone, create, rtf, formal, function, main_at, field_name, fields, struct, state, member, void, typed, regular_class, persistent_class}
+use Rattle.mpl_mean.proofs.Programs.{Parts, program, fails, failed, held, formal, function, main_at, field_name, fields, struct, state, member, void, typed, regular_class, persistent_class}
+use Rattle.mpl_mean.proofs.Statements.{int, named, plain, initialized, declare, call_alone, create, rtf}
 
 -- `int f(int x) { } int main() { int y = f(); }`
 abbrev too_few : Parts

@@ -4,7 +4,8 @@ use Rattle.std.proofs.Common.{◌≡◌, true, [], ◌∷◌}
 use Rattle.std.specs.Prelude.{None}
 use Rattle.mpl_mean.specs.Rules.{is_typed, least_failure}
 use Rattle.mpl_mean.proofs.Expressions.{as_relation, as_equality, as_expression, in_equality, variable, whole, number, input, read, equal}
-use Rattle.mpl_mean.proofs.Programs.{Parts, program, fails, failed, held, int, formal, main_at, field_name, fields, state, member, void, entry, guarded, select, regular_class, persistent_class}
+use Rattle.mpl_mean.proofs.Programs.{Parts, program, fails, failed, held, formal, main_at, field_name, fields, state, member, void, entry, guarded, select, regular_class, persistent_class}
+use Rattle.mpl_mean.proofs.Statements.{int}
 
 -- `regular mentat class calc { int n; }; int main() { }`
 abbrev state_in_regular : Parts

@@ -4,7 +4,8 @@ use Rattle.std.proofs.Common.{◌≡◌, true, [], ◌∷◌}
 use Rattle.std.specs.Prelude.{None}
 use Rattle.mpl_mean.specs.Rules.{is_typed, least_failure}
 use Rattle.mpl_mean.proofs.Expressions.{as_expression, number, of_expression}
-use Rattle.mpl_mean.proofs.Programs.{Parts, program, fails, failed, held, int, bool, named, dimension, plain, initialized, declare, formal, function, main_at, field_name, fields, struct, state, member, typed, regular_class, persistent_class}
+use Rattle.mpl_mean.proofs.Programs.{Parts, program, fails, failed, held, formal, function, main_at, field_name, fields, struct, state, member, typed, regular_class, persistent_class}
+use Rattle.mpl_mean.proofs.Statements.{int, bool, named, dimension, plain, initialized, declare}
 
 -- `struct s { int x; }; struct t { s a; }; int main() { }`
 abbrev struct_in_struct : Parts

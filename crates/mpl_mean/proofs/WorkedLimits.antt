@@ -1,6 +1,6 @@
 -- Worked programs at the limits of how many there may be.
 use Rattle.std.proofs.Common.{◌≡◌, ℕ, zero, suc, ◌+◌, ◌*◌, ◌/◌, ◌%◌, true, false, List, [], ◌∷◌, ◌++◌, refl}
-use Rattle.std.specs.Prelude.{None, codes}
+use Rattle.std.specs.Prelude.{None}
 use Rattle.mpl_ast.specs.declared.class.Item.TheVariants as item
 use Rattle.mpl_ast.specs.declared.class.ResultType.TheVariants.{Typed}
 use Rattle.mpl_ast.specs.declared.program.Declaration.{Declaration}
@@ -12,7 +12,8 @@ use Rattle.mpl_mean.specs.Rules.{is_typed, least_failure}
 use Rattle.mpl_mean.specs.Scopes.{Here}
 use Rattle.mpl_mean.specs.SizeRules.{count_fits}
 use Rattle.mpl_mean.proofs.Expressions.{at}
-use Rattle.mpl_mean.proofs.Programs.{Parts, program, fails, failed, held, in_items, in_entries, entry, member, typed, int, select, main_at, persistent_class}
+use Rattle.mpl_mean.proofs.Programs.{Parts, program, fails, failed, held, in_items, in_entries, entry, member, typed, select, main_at, persistent_class}
+use Rattle.mpl_mean.proofs.Statements.{int}
 use Rattle.mpl_mean.proofs.Shown.{Part}
 
 -- from `aa` to `zz`
@@ -24,7 +25,7 @@ abbrev members : ℕ → List (Part in_items)
 members zero = []
 members (suc n) = members n ++ record {
   tree = item.Member (at (31 + 13 * n)) (Typed (at (31 + 13 * n)) (type.Int (at (31 + 13 * n)))) (record { from = 35 + 13 * n; text = two_letters n })
-    None (record { at = at (40 + 13 * n); mark_line = 1; statements = [] });
+      None (record { at = at (40 + 13 * n); mark_line = 1; statements = [] });
   inners = OfRoutine (31 + 13 * n) [] NoAction ∷ [];
   has = λ c. refl;
 } ∷ []

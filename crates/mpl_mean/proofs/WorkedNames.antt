@@ -4,7 +4,8 @@ use Rattle.std.proofs.Common.{◌≡◌, true, [], ◌∷◌}
 use Rattle.std.specs.Prelude.{None}
 use Rattle.mpl_mean.specs.Rules.{is_typed, least_failure}
 use Rattle.mpl_mean.proofs.Expressions.{as_term, as_sum, as_relation, as_expression, in_relation, in_sum, variable, field, whole, number, truth, read, plain_call, plus, less, call, of_call, of_expression}
-use Rattle.mpl_mean.proofs.Programs.{Parts, program, fails, failed, held, int, bool, named, plain, initialized, local, assignment, nothing, within, declare, assign, when, starting, loop, print, formal, function, main_at, field_name, fields, struct, state, member, typed, entry, select, regular_class, persistent_class}
+use Rattle.mpl_mean.proofs.Programs.{Parts, program, fails, failed, held, formal, function, main_at, field_name, fields, struct, state, member, typed, entry, select, regular_class, persistent_class}
+use Rattle.mpl_mean.proofs.Statements.{int, bool, named, plain, initialized, local, assignment, nothing, within, declare, assign, when, starting, loop, print}
 
 -- `int main() { x = 1; }`
 abbrev unknown : Parts

@@ -4,7 +4,8 @@ use Rattle.std.proofs.Common.{◌≡◌, true, [], ◌∷◌}
 use Rattle.std.specs.Prelude.{None}
 use Rattle.mpl_mean.specs.Rules.{is_typed, least_failure}
 use Rattle.mpl_mean.proofs.Expressions.{as_term, as_sum, as_expression, in_sum, variable, field, whole, element, number, truth, read, inner, plus, call, of_expression}
-use Rattle.mpl_mean.proofs.Programs.{Parts, program, fails, failed, held, int, named, dimension, plain, nothing, declare, assign, call_alone, create, when, print, formal, main_at, field_name, fields, struct, member, typed, regular_class}
+use Rattle.mpl_mean.proofs.Programs.{Parts, program, fails, failed, held, formal, main_at, field_name, fields, struct, member, typed, regular_class}
+use Rattle.mpl_mean.proofs.Statements.{int, named, dimension, plain, nothing, declare, assign, call_alone, create, when, print}
 
 -- `int main() { if (1) ; }`
 abbrev test_of_int : Parts

@@ -3,7 +3,8 @@ use Rattle.std.proofs.Common.{◌≡◌, true, [], ◌∷◌}
 use Rattle.std.specs.Prelude.{None}
 use Rattle.mpl_mean.specs.Rules.{is_typed}
 use Rattle.mpl_mean.proofs.Expressions.{as_unary, as_term, as_sum, as_relation, as_expression, in_relation, in_sum, in_term, to_sum, variable, field, whole, element, number, truth, input, read, plus, minus, times, negated, less, call, own_call, of_call, of_expression}
-use Rattle.mpl_mean.proofs.Programs.{Parts, program, held, int, bool, named, dimension, plain, initialized, local, assignment, within, declare, assign, call_alone, create, when_else, starting, starting_with, loop, repeat, print, rtf, formal, main_at, field_name, fields, struct, state, member, void, typed, guarded, select, regular_class, persistent_class}
+use Rattle.mpl_mean.proofs.Programs.{Parts, program, held, formal, main_at, field_name, fields, struct, state, member, void, typed, guarded, select, regular_class, persistent_class}
+use Rattle.mpl_mean.proofs.Statements.{int, bool, named, dimension, plain, initialized, local, assignment, within, declare, assign, call_alone, create, when_else, starting, starting_with, loop, repeat, print, rtf}
 
 -- `regular mentat class calc { int sq(int x) { rtf(x * x); } }; int main() { calc w; int a = w.sq(3); int b = w.sq(4); print(a + b); }`
 abbrev squares : Parts

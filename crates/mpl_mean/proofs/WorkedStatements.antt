@@ -4,7 +4,8 @@ use Rattle.std.proofs.Common.{◌≡◌, true, [], ◌∷◌}
 use Rattle.std.specs.Prelude.{None, Some}
 use Rattle.mpl_mean.specs.Rules.{is_typed, least_failure}
 use Rattle.mpl_mean.proofs.Expressions.{as_term, as_sum, as_expression, in_sum, variable, whole, number, truth, input, read, plus, of_expression}
-use Rattle.mpl_mean.proofs.Programs.{Parts, program, fails, failed, held, int, assign, print, rtf, return, function, main_at, member, void, typed, regular_class, persistent_class}
+use Rattle.mpl_mean.proofs.Programs.{Parts, program, fails, failed, held, function, main_at, member, void, typed, regular_class, persistent_class}
+use Rattle.mpl_mean.proofs.Statements.{int, assign, print, rtf, return}
 
 -- `int f() { print(1); } int main() { }`
 abbrev print_in_function : Parts

@@ -1,15 +1,12 @@
 -- The type rules on calls: rules 18 to 22.
-use Rattle.std.specs.Prelude.{ℕ, Bool, true, false, not, ◌&&◌, List, Option, Some, None}
-use Rattle.mpl_ast.specs.declared.class.ResultType.{ResultType}
-use Rattle.mpl_ast.specs.declared.class.ResultType.TheVariants.{Void, Typed}
-use Rattle.mpl_ast.specs.declared.expression.Target.{Target}
+use Rattle.std.specs.Prelude.{Bool, true, false, ◌&&◌, List, Option, Some, None}
 use Rattle.mpl_ast.specs.declared.program.Declaration.{Declaration}
 use Rattle.mpl_mean.specs.ClassRules.{has_value}
 use Rattle.mpl_mean.specs.Layout.{Function, Member}
 use Rattle.mpl_mean.specs.Nodes.{Node}
 use Rattle.mpl_mean.specs.Nodes as node
-use Rattle.mpl_mean.specs.Scopes.{Here, Body, NoBody, InGuard, InMain, InFunction, InMember, is_in_main, is_in_member, is_persistent, plain_function}
-use Rattle.mpl_mean.specs.Types.{ValueType, OfClass, Shape, OneValue, AnArray, ARegular}
+use Rattle.mpl_mean.specs.Scopes.{Here, Body, NoBody, InGuard, InMain, InFunction, InMember, is_in_member, is_persistent, plain_function}
+use Rattle.mpl_mean.specs.Types.{ValueType, OfClass, Shape, OneValue, ARegular}
 use Rattle.mpl_mean.specs.Typing.{target_shape, receiver_shape, member_called, formal_types, arguments_fit, types_of}
 
 -- ---- rule 18

@@ -1,5 +1,5 @@
 -- The type rules on classes: rules 9 to 11 and 25.
-use Rattle.std.specs.Prelude.{ℕ, Bool, true, false, ◌&&◌, ◌==◌, nat_le, List, Option, Some, None}
+use Rattle.std.specs.Prelude.{ℕ, Bool, true, false, ◌&&◌, ◌==◌, nat_le, Some}
 use Rattle.std.specs.List.{list_all}
 use Rattle.mpl_ast.specs.declared.class.ResultType.{ResultType}
 use Rattle.mpl_ast.specs.declared.class.ResultType.TheVariants.{Void, Typed}
@@ -7,7 +7,7 @@ use Rattle.mpl_mean.specs.Layout.{natural}
 use Rattle.mpl_mean.specs.Nodes.{Node, Placed, phrase_nodes}
 use Rattle.mpl_mean.specs.Nodes as node
 use Rattle.mpl_mean.specs.Phrases.{Phrase}
-use Rattle.mpl_mean.specs.Scopes.{Here, Surrounding, is_persistent}
+use Rattle.mpl_mean.specs.Scopes.{Here, is_persistent}
 use Rattle.mpl_mean.specs.Types.{OfBool, agree}
 use Rattle.mpl_mean.specs.Typing.{type_of}
 

@@ -1,13 +1,10 @@
 -- The type rules on expressions, places and assignments: rules 12 to 17. A rule on parts holds where a part has no type.
-use Rattle.std.specs.Prelude.{ℕ, Bool, true, false, ◌&&◌, ◌||◌, List, Option, Some, None}
-use Rattle.mpl_ast.specs.declared.expression.Target.{Target}
-use Rattle.mpl_ast.specs.declared.expression.Target.TheVariants as target
-use Rattle.mpl_ast.specs.declared.program.Declaration.{Declaration}
+use Rattle.std.specs.Prelude.{Bool, true, false, ◌&&◌, ◌||◌, Option, Some, None}
 use Rattle.mpl_mean.specs.Nodes.{Node}
 use Rattle.mpl_mean.specs.Nodes as node
-use Rattle.mpl_mean.specs.Phrases.{Operation, Phrase}
+use Rattle.mpl_mean.specs.Phrases.{Operation}
 use Rattle.mpl_mean.specs.Scopes.{Here}
-use Rattle.mpl_mean.specs.Types.{ValueType, OfInt, OfBool, OfStruct, is_int, is_bool, agree, Shape, OneValue, AnArray, ARegular, Declared, shape_of}
+use Rattle.mpl_mean.specs.Types.{ValueType, OfBool, OfStruct, is_int, is_bool, agree, Shape, OneValue, AnArray, ARegular, shape_of}
 use Rattle.mpl_mean.specs.Typing.{target_shape, variable_shape, takes, takes_both, type_of, type_of_whole}
 
 -- ---- rule 12

@@ -1,7 +1,6 @@
 -- The nodes of expressions and calls that the type rules speak of, each with the byte at which it begins and what
 -- surrounds it.
 use Rattle.std.specs.Prelude.{ℕ, Bool, List, [], ◌∷◌, ◌++◌, Option, Some, None, ℤ}
-use Rattle.mpl_ast.specs.declared.class.Item.{Item}
 use Rattle.mpl_ast.specs.declared.class.ResultType.{ResultType}
 use Rattle.mpl_ast.specs.declared.expression.Target.{Target}
 use Rattle.mpl_ast.specs.declared.expression.Target.TheVariants as target
@@ -15,7 +14,6 @@ use Rattle.mpl_mean.specs.Types.{Declared, Role}
 
 pub data Node : Type 0 where
   TheProgram : Node
-
   -- a declared name, and the names from which it differs
   NewName : (name : List ℕ) → (earlier : List (List ℕ)) → Node
   -- a type, and whether what it declares is without dimension and initialiser
@@ -27,21 +25,18 @@ pub data Node : Type 0 where
   -- a member of what is called, which is `self` where there is no target
   UsedMember : (receiver : Option Target) → Name → Node
   Accepted : Name → Node
-
   -- with how many of their kind stand before
   ADeclaration : (before : ℕ) → Declaration → Node
   AFormal : (before : ℕ) → Node
   AMember : (before : ℕ) → ResultType → Node
   ASelect : (before : ℕ) → Node
   AnEntry : (before : ℕ) → Node
-
   -- a function or member, with its formals and all its locals
   Routine : List Declared → Node
   AState : Node
   ADimension : TypeName → ℤ → Node
   APriority : ℤ → Node
   AGuard : Phrase → Node
-
   ATest : Phrase → Node
   Printed : Phrase → Node
   UnaryOperation : Operation → Phrase → Node
@@ -57,7 +52,6 @@ pub data Node : Type 0 where
   PassedOn : (receiver : Option Target) → (member : Name) → Node
   AnOwn : Node
   AnInput : Node
-
   ALocal : Declared → (initialiser : Option Phrase) → Node
   Assigned : Phrase → (value : Phrase) → Node
   ACreate : Target → Node

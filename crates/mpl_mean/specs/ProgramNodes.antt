@@ -1,6 +1,6 @@
 -- All nodes of a program that the type rules speak of: those of its outline, and those inside its bodies and guards. No
 -- rule is known here.
-use Rattle.std.specs.Prelude.{ℕ, ◌+◌, Bool, true, List, [], ◌∷◌, ◌++◌, map, flat_map, Option, Some, None, if◌then◌else◌}
+use Rattle.std.specs.Prelude.{ℕ, ◌+◌, true, List, [], ◌∷◌, ◌++◌, map, flat_map, Option, Some, None, if◌then◌else◌}
 use Rattle.mpl_ast.specs.declared.class.Entry.{Entry}
 use Rattle.mpl_ast.specs.declared.class.Field.{Field}
 use Rattle.mpl_ast.specs.declared.class.FieldName.{FieldName}
@@ -11,7 +11,6 @@ use Rattle.mpl_ast.specs.declared.class.Kind.{Kind}
 use Rattle.mpl_ast.specs.declared.class.ResultType.{ResultType}
 use Rattle.mpl_ast.specs.declared.class.ResultType.TheVariants as result
 use Rattle.mpl_ast.specs.declared.expression.Expression.{Expression}
-use Rattle.mpl_ast.specs.declared.place.At.{At}
 use Rattle.mpl_ast.specs.declared.place.Name.{Name}
 use Rattle.mpl_ast.specs.declared.program.Declaration.{Declaration}
 use Rattle.mpl_ast.specs.declared.program.Declaration.TheVariants as declaration
@@ -25,7 +24,7 @@ use Rattle.mpl_mean.specs.Nodes as node
 use Rattle.mpl_mean.specs.Phrases.{Phrase, begins, phrase_of}
 use Rattle.mpl_mean.specs.Scopes.{Here, Body, InGuard, InMain, InFunction, InMember, Surrounding, at_top, in_class, in_body, is_main}
 use Rattle.mpl_mean.specs.StatementNodes.{actions_walk, locals_among, type_at, type_nodes, dimension_nodes}
-use Rattle.mpl_mean.specs.Types.{Role, InState, InStruct, AsFormal, AsResult, Declared, declared_formals}
+use Rattle.mpl_mean.specs.Types.{Role, InState, InStruct, AsFormal, AsResult, declared_formals}
 use Rattle.mpl_mean.specs.Typing.{member_of}
 
 -- ---- bodies and guards

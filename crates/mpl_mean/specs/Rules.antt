@@ -1,6 +1,6 @@
 -- The type rules by their numbers, where each fails, and which programs are well typed.
-use Rattle.std.specs.Prelude.{◌≡◌, ◌<◌, ◌≤◌, ◌⊎◌, ℕ, Bool, true, false, not, ◌&&◌, ◌||◌, ◌==◌, nat_lt, List, [], ◌∷◌, ◌++◌, map, flat_map, filter, Option, Some, None, if◌then◌else◌}
-use Rattle.std.specs.List.{list_all, list_any}
+use Rattle.std.specs.Prelude.{◌≡◌, ◌<◌, ◌≤◌, ◌⊎◌, ℕ, Bool, true, false, not, ◌&&◌, ◌||◌, ◌==◌, nat_lt, List, [], ◌∷◌, map, flat_map, filter, Option, Some, None, if◌then◌else◌}
+use Rattle.std.specs.List.{list_any}
 use Rattle.mpl_ast.specs.declared.program.Program.{Program}
 use Rattle.mpl_mean.specs.CallRules.{plain_call_fits, member_call_fits, void_call_is_alone, call_is_in_place, self_is_in_place}
 use Rattle.mpl_mean.specs.ClassRules.{state_is_persistent, select_fits, guard_fits, member_gives_value}

@@ -1,13 +1,11 @@
 -- The type rules on statements: rules 23, 24 and 26.
-use Rattle.std.specs.Prelude.{ℕ, Bool, true, false, Option, Some, None}
-use Rattle.mpl_ast.specs.declared.class.ResultType.{ResultType}
-use Rattle.mpl_ast.specs.declared.class.ResultType.TheVariants.{Void, Typed}
-use Rattle.mpl_ast.specs.declared.program.Declaration.{Declaration}
+use Rattle.std.specs.Prelude.{Bool, true, false, Option, Some, None}
+use Rattle.mpl_ast.specs.declared.class.ResultType.TheVariants.{Typed}
 use Rattle.mpl_mean.specs.Nodes.{Node}
 use Rattle.mpl_mean.specs.Nodes as node
 use Rattle.mpl_mean.specs.Phrases.{Phrase}
 use Rattle.mpl_mean.specs.Scopes.{Here, Body, InMain, InFunction, InMember, is_in_main}
-use Rattle.mpl_mean.specs.Types.{ValueType, OfInt, AsResult, agree, meant, value_type}
+use Rattle.mpl_mean.specs.Types.{OfInt, AsResult, agree, meant, value_type}
 use Rattle.mpl_mean.specs.Typing.{type_of}
 
 -- ---- rule 23

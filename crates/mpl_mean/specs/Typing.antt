@@ -1,5 +1,5 @@
 -- The type of an expression, a place, a flow and a call. It has none where a rule that decides it fails.
-use Rattle.std.specs.Prelude.{ℕ, Bool, true, false, ◌&&◌, ◌||◌, ◌==◌, List, [], ◌∷◌, map, length, is_none, Option, Some, None, if◌then◌else◌}
+use Rattle.std.specs.Prelude.{ℕ, Bool, true, ◌&&◌, ◌||◌, ◌==◌, List, [], ◌∷◌, map, length, is_none, Option, Some, None, if◌then◌else◌}
 use Rattle.std.specs.List.{list_any}
 use Rattle.std.specs.Option.{option_map, option_and_then}
 use Rattle.mpl_ast.specs.declared.class.Formal.{Formal}
@@ -11,7 +11,7 @@ use Rattle.mpl_mean.specs.Layout.{Function, Member, member_named, members_from}
 use Rattle.mpl_mean.specs.Phrases.{Operation, Arithmetic, Comparison, Equality, Logic, Phrase, Phrases}
 use Rattle.mpl_mean.specs.Phrases as phrase
 use Rattle.mpl_mean.specs.Scopes.{Here, Body, InMember, Surrounding, variable_of, plain_function}
-use Rattle.mpl_mean.specs.Types.{ValueType, OfInt, OfBool, OfStruct, OfClass, is_int, is_bool, agree, Meant, AStruct, AClass, meant, meant_by, Role, InStruct, AsFormal, AsResult, value_type, result_type, first_named, declared_fields, Shape, OneValue, AnArray, ARegular, shape_of}
+use Rattle.mpl_mean.specs.Types.{ValueType, OfInt, OfBool, OfStruct, OfClass, is_int, is_bool, agree, Meant, AStruct, AClass, meant, meant_by, InStruct, AsFormal, AsResult, value_type, result_type, first_named, declared_fields, Shape, OneValue, AnArray, ARegular, shape_of}
 
 -- ---- places
 
