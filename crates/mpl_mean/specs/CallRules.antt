@@ -75,7 +75,7 @@ create_may_stand InMain persistent = true
 create_may_stand (InMember result) persistent = persistent
 create_may_stand body persistent = false
 
--- Mentat calls stand in main and members, and `create` in main and members of persistent classes; in a regular member
+-- Calls of members stand in main and members, and `create` in main and members of persistent classes; in a regular member
 -- only calls on regular classes.
 abbrev pub call_is_in_place : Here → Node → Bool
 call_is_in_place here (node.ACall receiver member arguments) = call_may_stand here.body (is_persistent here.class) (receiver_shape here receiver)
