@@ -14,3 +14,4 @@ mod WorkedStatements
 mod WorkedPrograms
 mod WorkedLimits
 mod LeastFailure
+mod FirstExpressions
