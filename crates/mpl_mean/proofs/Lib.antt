@@ -15,3 +15,4 @@ mod WorkedPrograms
 mod WorkedLimits
 mod LeastFailure
 mod FirstExpressions
+mod FirstActions
