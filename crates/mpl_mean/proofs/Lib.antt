@@ -16,3 +16,4 @@ mod WorkedLimits
 mod LeastFailure
 mod FirstExpressions
 mod FirstActions
+mod FirstTypes
