@@ -1,5 +1,5 @@
 -- What names stand for in a program of the first form, and the types of its expressions: `int`, where they have one.
-use Rattle.std.proofs.Common.{◌≡◌, ℕ, Bool, true, false, ◌&&◌, List, [], ◌∷◌, ◌++◌, map, Option, Some, None, if◌then◌else◌, refl}
+use Rattle.std.proofs.Common.{◌≡◌, ℕ, ◌+◌, Bool, true, false, ◌&&◌, List, [], ◌∷◌, ◌++◌, map, Option, Some, None, if◌then◌else◌, refl}
 use Rattle.std.specs.Prelude.{flat_map}
 use Rattle.std.specs.List.{list_all}
 use Rattle.std.specs.Option.{option_and_then}
@@ -23,7 +23,7 @@ use Rattle.mpl_mean.specs.Layout.{Member, member_named, members_from, state_of}
 use Rattle.mpl_mean.specs.Phrases.{Phrase}
 use Rattle.mpl_mean.specs.Phrases as phrase
 use Rattle.mpl_mean.specs.Scopes.{Here, Surrounding, state_members, variable_of}
-use Rattle.mpl_mean.specs.Types.{AnInt, ABool, AStruct, AClass, Nothing, Meant, meant, meant_by, Role, AsLocal, AsFormal, AsResult, InState, InStruct, Declared, first_named, Shape, OneValue, AnArray, ARegular, OfInt, shape_of, shape_of_meant, result_type, ValueType}
+use Rattle.mpl_mean.specs.Types.{AnInt, ABool, AStruct, AClass, Nothing, Meant, meant, meant_by, Role, AsLocal, AsFormal, AsResult, InState, InStruct, Declared, first_named, Shape, OneValue, AnArray, ARegular, OfInt, OfBool, OfStruct, OfClass, shape_of, shape_of_meant, result_type, ValueType}
 use Rattle.mpl_mean.specs.Typing.{variable_shape, type_of_whole, type_of_binary, type_of, items_called, member_of, type_of_call}
 use Rattle.mpl_mean.proofs.FirstExpressions.{IsFirst, both_true}
 
@@ -157,3 +157,95 @@ abbrev pub IsFirstType : Option ValueType → Type 0
 IsFirstType None = Unit {0}
 IsFirstType (Some OfInt) = Unit {0}
 IsFirstType other = ⊥
+
+whole_first : (s : Option Shape) → IsFirstShape s → IsFirstType (type_of_whole s)
+whole_first None h = tt
+whole_first (Some (OneValue OfInt)) h = tt
+whole_first (Some (OneValue OfBool)) h = absurd h
+whole_first (Some (OneValue (OfStruct name))) h = absurd h
+whole_first (Some (OneValue (OfClass name))) h = absurd h
+whole_first (Some (AnArray t)) h = tt
+whole_first (Some (ARegular items)) h = tt
+
+binary_first : (l r : Option ValueType) → IsFirstType l → IsFirstType r → IsFirstType (type_of_binary phrase.Arithmetic l r)
+binary_first None r a b = tt
+binary_first (Some l) None a b = tt
+binary_first (Some OfInt) (Some OfInt) a b = tt
+binary_first (Some OfInt) (Some OfBool) a b = absurd b
+binary_first (Some OfInt) (Some (OfStruct name)) a b = absurd b
+binary_first (Some OfInt) (Some (OfClass name)) a b = absurd b
+binary_first (Some OfBool) (Some r) a b = absurd a
+binary_first (Some (OfStruct name)) (Some r) a b = absurd a
+binary_first (Some (OfClass name)) (Some r) a b = absurd a
+
+pub type_first : (here : Here) → FirstHere here → (p : Phrase) → IsFirst p → IsFirstType (type_of here p)
+type_first here first (phrase.Number at) h = tt
+type_first here first (phrase.Whole at (target.Variable t v)) h = whole_first (variable_shape here v.text) (variable_first here first v.text)
+type_first here first (phrase.Whole at (target.Field t v f)) h = absurd cc
+type_first here first (phrase.Binary at phrase.Arithmetic l r) h =
+    binary_first (type_of here l) (type_of here r) (type_first here first l h.0) (type_first here first r h.1)
+type_first here first (phrase.Binary at phrase.Comparison l r) h = absurd h
+type_first here first (phrase.Binary at phrase.Equality l r) h = absurd h
+type_first here first (phrase.Binary at phrase.Logic l r) h = absurd h
+type_first here first (phrase.Truth at) h = absurd h
+type_first here first (phrase.Own at) h = absurd h
+type_first here first (phrase.Input at) h = absurd h
+type_first here first (phrase.Element at t index) h = absurd h
+type_first here first (phrase.PlainCall at function arguments) h = absurd h
+type_first here first (phrase.Parenthesized at inner) h = absurd h
+type_first here first (phrase.Unary at operation operand) h = absurd h
+type_first here first (phrase.CallOnOwn at member arguments) h = absurd h
+type_first here first (phrase.CallOnTarget at t member arguments) h = absurd h
+
+-- ---- members
+
+-- it gives an `int`
+abbrev pub IsFirstMember : Option Member → Type 0
+IsFirstMember None = Unit {0}
+IsFirstMember (Some member) = is_int_result member.result ≡ true
+
+chosen_member : (t : Bool) (x y : Option Member) → IsFirstMember x → IsFirstMember y → IsFirstMember (if t then x else y)
+chosen_member true x y a b = a
+chosen_member false x y a b = b
+
+member_found : (name : List ℕ) (id : ℕ) (items : List Item) → AreFirstItems items → IsFirstMember (member_named name (members_from id items))
+member_found name id [] h = tt
+member_found name id (item.OfField at field ∷ items) h = absurd cc
+member_found name id (item.Member at result member formals body ∷ items) h =
+    let b = both_true (is_first_item (item.Member at result member formals body)) (list_all is_first_item items) h in
+    let c = both_true (is_int_result result && are_ints formals) (is_one_result body.statements) b.0 in
+    chosen_member (bytes_eq member.text name) _ _ (both_true (is_int_result result) (are_ints formals) c.0).0 (member_found name (id + 1) items b.1)
+member_found name id (item.Select at line entries ∷ items) h = absurd cc
+member_found name id (item.Public at ∷ items) h = absurd cc
+member_found name id (item.Private at ∷ items) h = absurd cc
+member_found name id (item.Empty at ∷ items) h = absurd cc
+
+pub member_first : (ds : List Declaration) (name : List ℕ) (s : Option Shape) → IsFirstShape s → IsFirstMember (option_and_then (member_of name) (items_called ds s))
+member_first ds name None h = tt
+member_first ds name (Some (OneValue OfInt)) h = tt
+member_first ds name (Some (OneValue OfBool)) h = absurd h
+member_first ds name (Some (OneValue (OfStruct n))) h = absurd h
+member_first ds name (Some (OneValue (OfClass n))) h = absurd h
+member_first ds name (Some (AnArray t)) h = absurd h
+member_first ds name (Some (ARegular items)) h = member_found name 0 items h
+
+result_first : (ds : List Declaration) (r : ResultType) → is_int_result r ≡ true → IsFirstType (result_type ds r)
+result_first ds (result.Void at) h = absurd cc
+result_first ds (result.Typed at (type.Int t)) h = tt
+result_first ds (result.Typed at (type.Bool t)) h = absurd cc
+result_first ds (result.Typed at (type.Named t name)) h = absurd cc
+
+pub call_first : (ds : List Declaration) (m : Option Member) → IsFirstMember m → IsFirstType (type_of_call ds m)
+call_first ds None h = tt
+call_first ds (Some member) h = result_first ds member.result h
+
+-- a regular class of the first form has no state
+pub no_state : (items : List Item) → AreFirstItems items → state_of items ≡ []
+no_state [] h = refl
+no_state (item.OfField at field ∷ items) h = absurd cc
+no_state (item.Member at result member formals body ∷ items) h =
+    no_state items (both_true (is_first_item (item.Member at result member formals body)) (list_all is_first_item items) h).1
+no_state (item.Select at line entries ∷ items) h = absurd cc
+no_state (item.Public at ∷ items) h = absurd cc
+no_state (item.Private at ∷ items) h = absurd cc
+no_state (item.Empty at ∷ items) h = absurd cc
