@@ -86,10 +86,7 @@ IsFirstShape other = ⊥
 shape_named : (m : Meant) → IsFirstMeant m → IsFirstShape (shape_of_meant AsLocal None m)
 shape_named Nothing h = tt
 shape_named (AClass name true items) h = h
-shape_named (AClass name false items) h = absurd h
-shape_named AnInt h = absurd h
-shape_named ABool h = absurd h
-shape_named (AStruct name fields) h = absurd h
+shape_named m h = absurd h
 
 shape_first : (ds : List Declaration) → OnlyFirst ds → (role : Role) (dimension : Option Dimension) (t : TypeName)
     → IsFirstTyped role dimension t → IsFirstShape (shape_of_meant role dimension (meant ds t))
@@ -99,32 +96,7 @@ shape_first ds first AsFormal None (type.Int at) h = tt
 shape_first ds first AsResult None (type.Int at) h = tt
 shape_first ds first AsLocal None (type.Int at) h = tt
 shape_first ds first AsLocal None (type.Named at name) h = shape_named (meant_by name.text ds) (first name.text)
-shape_first ds first InState None (type.Named at name) h = absurd h
-shape_first ds first InStruct None (type.Named at name) h = absurd h
-shape_first ds first AsFormal None (type.Named at name) h = absurd h
-shape_first ds first AsResult None (type.Named at name) h = absurd h
-shape_first ds first InState None (type.Bool at) h = absurd h
-shape_first ds first InStruct None (type.Bool at) h = absurd h
-shape_first ds first AsFormal None (type.Bool at) h = absurd h
-shape_first ds first AsResult None (type.Bool at) h = absurd h
-shape_first ds first AsLocal None (type.Bool at) h = absurd h
-shape_first ds first role (Some dimension) t h = absurd (no_dimension role dimension t h) where
-  no_dimension : (role : Role) (dimension : Dimension) (t : TypeName) → IsFirstTyped role (Some dimension) t → ⊥
-  no_dimension InState dimension (type.Int at) h = h
-  no_dimension InState dimension (type.Bool at) h = h
-  no_dimension InState dimension (type.Named at name) h = h
-  no_dimension InStruct dimension (type.Int at) h = h
-  no_dimension InStruct dimension (type.Bool at) h = h
-  no_dimension InStruct dimension (type.Named at name) h = h
-  no_dimension AsFormal dimension (type.Int at) h = h
-  no_dimension AsFormal dimension (type.Bool at) h = h
-  no_dimension AsFormal dimension (type.Named at name) h = h
-  no_dimension AsResult dimension (type.Int at) h = h
-  no_dimension AsResult dimension (type.Bool at) h = h
-  no_dimension AsResult dimension (type.Named at name) h = h
-  no_dimension AsLocal dimension (type.Int at) h = h
-  no_dimension AsLocal dimension (type.Bool at) h = h
-  no_dimension AsLocal dimension (type.Named at name) h = h
+shape_first ds first role dimension t h = absurd h
 
 pub shape_of_variable : (ds : List Declaration) → OnlyFirst ds → (d : Declared) → IsFirstTyped d.role d.dimension d.type → IsFirstShape (shape_of ds (Some d))
 shape_of_variable ds first d h = shape_first ds first d.role d.dimension d.type h
@@ -161,22 +133,16 @@ IsFirstType other = ⊥
 whole_first : (s : Option Shape) → IsFirstShape s → IsFirstType (type_of_whole s)
 whole_first None h = tt
 whole_first (Some (OneValue OfInt)) h = tt
-whole_first (Some (OneValue OfBool)) h = absurd h
-whole_first (Some (OneValue (OfStruct name))) h = absurd h
-whole_first (Some (OneValue (OfClass name))) h = absurd h
 whole_first (Some (AnArray t)) h = tt
 whole_first (Some (ARegular items)) h = tt
+whole_first other h = absurd h
 
 binary_first : (l r : Option ValueType) → IsFirstType l → IsFirstType r → IsFirstType (type_of_binary phrase.Arithmetic l r)
 binary_first None r a b = tt
 binary_first (Some l) None a b = tt
 binary_first (Some OfInt) (Some OfInt) a b = tt
-binary_first (Some OfInt) (Some OfBool) a b = absurd b
-binary_first (Some OfInt) (Some (OfStruct name)) a b = absurd b
-binary_first (Some OfInt) (Some (OfClass name)) a b = absurd b
-binary_first (Some OfBool) (Some r) a b = absurd a
-binary_first (Some (OfStruct name)) (Some r) a b = absurd a
-binary_first (Some (OfClass name)) (Some r) a b = absurd a
+binary_first (Some OfInt) r a b = absurd b
+binary_first l r a b = absurd a
 
 pub type_first : (here : Here) → FirstHere here → (p : Phrase) → IsFirst p → IsFirstType (type_of here p)
 type_first here first (phrase.Number at) h = tt
@@ -184,18 +150,7 @@ type_first here first (phrase.Whole at (target.Variable t v)) h = whole_first (v
 type_first here first (phrase.Whole at (target.Field t v f)) h = absurd cc
 type_first here first (phrase.Binary at phrase.Arithmetic l r) h =
     binary_first (type_of here l) (type_of here r) (type_first here first l h.0) (type_first here first r h.1)
-type_first here first (phrase.Binary at phrase.Comparison l r) h = absurd h
-type_first here first (phrase.Binary at phrase.Equality l r) h = absurd h
-type_first here first (phrase.Binary at phrase.Logic l r) h = absurd h
-type_first here first (phrase.Truth at) h = absurd h
-type_first here first (phrase.Own at) h = absurd h
-type_first here first (phrase.Input at) h = absurd h
-type_first here first (phrase.Element at t index) h = absurd h
-type_first here first (phrase.PlainCall at function arguments) h = absurd h
-type_first here first (phrase.Parenthesized at inner) h = absurd h
-type_first here first (phrase.Unary at operation operand) h = absurd h
-type_first here first (phrase.CallOnOwn at member arguments) h = absurd h
-type_first here first (phrase.CallOnTarget at t member arguments) h = absurd h
+type_first here first other h = absurd h
 
 -- ---- members
 
@@ -223,11 +178,8 @@ member_found name id (item.Empty at ∷ items) h = absurd cc
 pub member_first : (ds : List Declaration) (name : List ℕ) (s : Option Shape) → IsFirstShape s → IsFirstMember (option_and_then (member_of name) (items_called ds s))
 member_first ds name None h = tt
 member_first ds name (Some (OneValue OfInt)) h = tt
-member_first ds name (Some (OneValue OfBool)) h = absurd h
-member_first ds name (Some (OneValue (OfStruct n))) h = absurd h
-member_first ds name (Some (OneValue (OfClass n))) h = absurd h
-member_first ds name (Some (AnArray t)) h = absurd h
 member_first ds name (Some (ARegular items)) h = member_found name 0 items h
+member_first ds name other h = absurd h
 
 result_first : (ds : List Declaration) (r : ResultType) → is_int_result r ≡ true → IsFirstType (result_type ds r)
 result_first ds (result.Void at) h = absurd cc

@@ -17,3 +17,5 @@ mod LeastFailure
 mod FirstExpressions
 mod FirstActions
 mod FirstTypes
+mod FirstNodes
+mod FirstBodies
