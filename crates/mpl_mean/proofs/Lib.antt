@@ -19,3 +19,4 @@ mod FirstActions
 mod FirstTypes
 mod FirstNodes
 mod FirstBodies
+mod FirstPrograms

@@ -1,8 +1,9 @@
 ghost use Rattle.std.specs.Prelude.{◌≡◌, ◌≤◌, ◌↔◌, ℕ, List, length, true, Ok, Some, None};
 ghost use Rattle.mpl_ast.specs.declared.program.Program.{Program};
 ghost use Rattle.mpl_ast.specs.declared.token.Token.{Token};
+ghost use Rattle.mpl_mean.specs.FirstForm.{is_first_form};
 ghost use Rattle.mpl_mean.specs.Lexemes.{tokens_of};
-ghost use Rattle.mpl_mean.specs.Rules.{Failure, fails, is_typed, least_failure, IsNotBehind};
+ghost use Rattle.mpl_mean.specs.Rules.{Failure, fails, failures, first_failures, is_typed, least_failure, IsNotBehind};
 
 /// A source has no more tokens than bytes.
 pub fn tokens_are_few()
@@ -16,4 +17,9 @@ pub fn refusals_are_least()
     ensures least { (p : Program) (f : Failure) (number at : ℕ) →
         least_failure p ≡ Some f → fails p number at ≡ true → IsNotBehind f (record { at = at; rule = number }) }
     ensures typed { (p : Program) → is_typed p ≡ true ↔ least_failure p ≡ None }
+{}
+
+/// In a program of the first form no rule can fail but the seven that are tried there.
+pub fn seven_rules_are_enough()
+    ensures { (p : Program) → is_first_form p ≡ true → failures p ≡ first_failures p }
 {}

@@ -4,4 +4,4 @@
 
 mod laws;
 
-pub use laws::{refusals_are_least, tokens_are_few};
+pub use laws::{refusals_are_least, seven_rules_are_enough, tokens_are_few};
