@@ -4,16 +4,16 @@ use Rattle.std.proofs.Common.{ℕ, List, pos}
 use Rattle.std.specs.Prelude.{codes}
 use Prim.Native.String.{String}
 use Rattle.mpl_ast.specs.declared.expression.Conjunction.{roll-Conjunction, fold-roll-Conjunction}
-use Rattle.mpl_ast.specs.declared.expression.Equality.{Equality, roll-Equality, fold-Equality, fold-roll-Equality}
+use Rattle.mpl_ast.specs.declared.expression.Equality.{roll-Equality, fold-roll-Equality}
 use Rattle.mpl_ast.specs.declared.expression.Expression.{roll-Expression, fold-roll-Expression}
 use Rattle.mpl_ast.specs.declared.expression.Place.{roll-Place, fold-roll-Place}
-use Rattle.mpl_ast.specs.declared.expression.Primary.{Primary, roll-Primary, fold-Primary, fold-roll-Primary}
-use Rattle.mpl_ast.specs.declared.expression.Relation.{Relation, roll-Relation, fold-Relation, fold-roll-Relation}
-use Rattle.mpl_ast.specs.declared.expression.Sum.{Sum, roll-Sum, fold-Sum, fold-roll-Sum}
+use Rattle.mpl_ast.specs.declared.expression.Primary.{roll-Primary, fold-roll-Primary}
+use Rattle.mpl_ast.specs.declared.expression.Relation.{roll-Relation, fold-roll-Relation}
+use Rattle.mpl_ast.specs.declared.expression.Sum.{roll-Sum, fold-roll-Sum}
 use Rattle.mpl_ast.specs.declared.expression.SumOperator.TheVariants.{Plus, Minus}
-use Rattle.mpl_ast.specs.declared.expression.Term.{Term, roll-Term, fold-Term, fold-roll-Term}
+use Rattle.mpl_ast.specs.declared.expression.Term.{roll-Term, fold-roll-Term}
 use Rattle.mpl_ast.specs.declared.expression.TermOperator.TheVariants.{Times}
-use Rattle.mpl_ast.specs.declared.expression.Unary.{Unary, roll-Unary, fold-Unary, fold-roll-Unary}
+use Rattle.mpl_ast.specs.declared.expression.Unary.{roll-Unary, fold-roll-Unary}
 use Rattle.mpl_ast.specs.declared.expression.UnaryOperator.TheVariants.{Not}
 use Rattle.mpl_ast.specs.declared.expression.EqualityOperator.TheVariants.{Equal}
 use Rattle.mpl_ast.specs.declared.expression.RelationOperator.TheVariants.{Less}
@@ -27,6 +27,7 @@ use Rattle.mpl_ast.specs.declared.place.At.{At}
 use Rattle.mpl_ast.specs.declared.place.Name.{Name}
 use Rattle.mpl_mean.specs.Phrases.{Phrase, listed, phrase_of, phrase_of_place, phrase_of_flow, phrase_of_call, conjunction_step, equality_step, expression_step, place_step, primary_step, relation_step, sum_step, term_step, unary_step}
 use Rattle.mpl_mean.specs.Phrases as phrase
+use Rattle.mpl_mean.proofs.Levels.{phrase_of_equality, phrase_of_primary, phrase_of_relation, phrase_of_sum, phrase_of_term, phrase_of_unary}
 use Rattle.mpl_mean.proofs.Shown.{Shown, all_trees, all_seen, seen_each}
 
 abbrev pub at : ℕ → At
@@ -39,30 +40,6 @@ name from text = record { from = from; text = codes text }
 ruleset layers = (fold-roll-Expression, fold-roll-Conjunction, fold-roll-Equality, fold-roll-Relation, fold-roll-Sum, fold-roll-Term, fold-roll-Unary, fold-roll-Primary, fold-roll-Place, fold-roll-Flow, fold-roll-Call)
 
 -- ---- the levels
-
-abbrev pub phrase_of_equality : Equality → Phrase
-phrase_of_equality = fold-Equality Phrase Phrase Phrase Phrase Phrase Phrase Phrase Phrase Phrase
-    conjunction_step equality_step expression_step place_step primary_step relation_step sum_step term_step unary_step
-
-abbrev pub phrase_of_relation : Relation → Phrase
-phrase_of_relation = fold-Relation Phrase Phrase Phrase Phrase Phrase Phrase Phrase Phrase Phrase
-    conjunction_step equality_step expression_step place_step primary_step relation_step sum_step term_step unary_step
-
-abbrev pub phrase_of_sum : Sum → Phrase
-phrase_of_sum = fold-Sum Phrase Phrase Phrase Phrase Phrase Phrase Phrase Phrase Phrase
-    conjunction_step equality_step expression_step place_step primary_step relation_step sum_step term_step unary_step
-
-abbrev pub phrase_of_term : Term → Phrase
-phrase_of_term = fold-Term Phrase Phrase Phrase Phrase Phrase Phrase Phrase Phrase Phrase
-    conjunction_step equality_step expression_step place_step primary_step relation_step sum_step term_step unary_step
-
-abbrev pub phrase_of_unary : Unary → Phrase
-phrase_of_unary = fold-Unary Phrase Phrase Phrase Phrase Phrase Phrase Phrase Phrase Phrase
-    conjunction_step equality_step expression_step place_step primary_step relation_step sum_step term_step unary_step
-
-abbrev pub phrase_of_primary : Primary → Phrase
-phrase_of_primary = fold-Primary Phrase Phrase Phrase Phrase Phrase Phrase Phrase Phrase Phrase
-    conjunction_step equality_step expression_step place_step primary_step relation_step sum_step term_step unary_step
 
 abbrev pub as_unary : ℕ → Shown phrase_of_primary → Shown phrase_of_unary
 as_unary from p = record { tree = roll-Unary (Unary-F.OnePrimary (at from) p.tree); seen = p.seen; is = simp (layers, p.is) }

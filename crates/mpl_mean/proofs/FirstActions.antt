@@ -1,5 +1,5 @@
 -- Calls and statements of the first form, and what the type rules see of them.
-use Rattle.std.proofs.Common.{◌≡◌, Bool, true, false, ◌&&◌, List, [], ◌∷◌, map, Option, Some, None, sym, subst, refl, ◌∙◌}
+use Rattle.std.proofs.Common.{◌≡◌, Bool, true, List, [], ◌∷◌, map, Option, Some, None, sym, subst, ◌∙◌}
 use Rattle.std.specs.List.{list_all}
 use Rattle.mpl_ast.specs.declared.expression.Expression.{Expression}
 use Rattle.mpl_ast.specs.declared.flow.Call.{Call, fold_out-Call, map-Call, out-Call}

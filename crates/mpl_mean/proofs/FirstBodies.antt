@@ -1,11 +1,10 @@
 -- At the nodes of statements of the first form, only the seven rules of that form can fail.
-use Rattle.std.proofs.Common.{◌≡◌, ℕ, Bool, true, false, ◌&&◌, List, [], ◌∷◌, ◌++◌, map, Option, Some, None, refl, ap, sym, subst, ◌∙◌}
+use Rattle.std.proofs.Common.{◌≡◌, true, List, [], ◌∷◌, ◌++◌, map, Option, Some, None, refl, ap, sym, subst, ◌∙◌}
 use Rattle.std.specs.Prelude.{flat_map}
 use Rattle.std.specs.List.{list_all}
 use Rattle.mpl_ast.specs.declared.class.ResultType.{ResultType}
 use Rattle.mpl_ast.specs.declared.class.ResultType.TheVariants.{Void, Typed}
 use Rattle.mpl_ast.specs.declared.place.Name.{Name}
-use Rattle.mpl_ast.specs.declared.program.Declaration.{Declaration}
 use Rattle.mpl_ast.specs.declared.statement.Dimension.{Dimension}
 use Rattle.mpl_ast.specs.declared.statement.Statement.{Statement}
 use Rattle.mpl_ast.specs.declared.statement.TypeName.{TypeName}
@@ -13,21 +12,20 @@ use Rattle.mpl_ast.specs.declared.statement.TypeName.TheVariants as type
 use Rattle.mpl_mean.specs.Actions.{Action, Actions, NewLocal, action_of, in_turn}
 use Rattle.mpl_mean.specs.Actions as action
 use Rattle.mpl_mean.specs.ExpressionRules.{operands_fit, can_be_printed, right_side_fits, initialiser_fits}
-use Rattle.mpl_mean.specs.FirstForm.{is_first_statement, is_int, is_int_result, is_named}
+use Rattle.mpl_mean.specs.FirstForm.{is_first_statement, is_int_result}
 use Rattle.mpl_mean.specs.NameRules.{name_is_known}
-use Rattle.mpl_mean.specs.Nodes.{Node, Placed, place, phrase_nodes}
-use Rattle.mpl_mean.specs.Nodes as node
+use Rattle.mpl_mean.specs.Nodes.{phrase_nodes}
 use Rattle.mpl_mean.specs.Phrases.{Phrase}
 use Rattle.mpl_mean.specs.Rules.{rule}
-use Rattle.mpl_mean.specs.Scopes.{Here, Body, InMain, InMember, behind, with_last, is_in_main}
+use Rattle.mpl_mean.specs.Scopes.{Here, InMain, InMember, behind, with_last, is_in_main}
 use Rattle.mpl_mean.specs.SizeRules.{type_may_stand, meant_may_stand}
-use Rattle.mpl_mean.specs.StatementNodes.{Walks, action_walk, actions_walk, print_walk, local_walk, declared_local}
+use Rattle.mpl_mean.specs.StatementNodes.{action_walk, actions_walk, print_walk, declared_local}
 use Rattle.mpl_mean.specs.StatementRules.{speaks_in_main, rtf_fits, can_give}
 use Rattle.mpl_mean.specs.Types.{Declared, AsLocal, Meant, Nothing, AClass, meant_by, ValueType, OneValue, OfInt, agree}
 use Rattle.mpl_mean.specs.Typing.{type_of}
 use Rattle.mpl_mean.proofs.FirstActions.{AllFirst, IsFirstAction, IsFirstLocal, IsResult, statement_is_first}
-use Rattle.mpl_mean.proofs.FirstExpressions.{IsFirst, both_true}
-use Rattle.mpl_mean.proofs.FirstNodes.{Same, AllSame, same_append, with_one, with_second, phrase_same, call_same, call_type_first}
+use Rattle.mpl_mean.proofs.FirstExpressions.{both_true}
+use Rattle.mpl_mean.proofs.FirstNodes.{AllSame, same_append, with_one, with_second, phrase_same, call_same, call_type_first}
 use Rattle.mpl_mean.proofs.FirstTypes.{FirstHere, IsFirstType, IsFirstMeant, IsFirstTyped, AreFirstVariables, variables_append, type_first}
 
 -- ---- scopes
@@ -61,9 +59,10 @@ printed_holds other h = absurd h
 
 prints_same : (here : Here) → FirstHere here → (ps : List Phrase) → AllFirst ps → AllSame (print_walk ps here).nodes
 prints_same here first [] h = tt
-prints_same here first (p ∷ ps) h =
-    (with_one _ (rule 13 operands_fit) _ (printed_holds (type_of here p) (type_first here first p h.0)),
-    same_append (phrase_nodes here p) (print_walk ps here).nodes (phrase_same here first p h.0) (prints_same here first ps h.1))
+prints_same here first (p ∷ ps) h = (
+  with_one _ (rule 13 operands_fit) _ (printed_holds (type_of here p) (type_first here first p h.0)),
+  same_append (phrase_nodes here p) (print_walk ps here).nodes (phrase_same here first p h.0) (prints_same here first ps h.1),
+)
 
 prints_after : (here : Here) (ps : List Phrase) → (print_walk ps here).after ≡ here
 prints_after here [] = refl
@@ -95,9 +94,16 @@ local_same here h (type.Named at n) name None None e =
     (with_second n.from (rule 1 name_is_known) (rule 4 type_may_stand) _ _ (named_may_stand (meant_by n.text here.declarations) (h.first.program n.text)), (refl, (refl, tt)))
 local_same here h (type.Int at) name None None e = absurd cc
 local_same here h (type.Bool at) name None None e = absurd cc
-local_same here h (type.Int at) name None (Some call) e =
-    (refl, (refl, (with_one name.from (rule 17 right_side_fits) _ (value_fits (type_of here call) (call_type_first here h.first call e.1)),
-    same_append (phrase_nodes here call ++ []) [] (same_append (phrase_nodes here call) [] (call_same here h.first h.main call e.1) tt) tt)))
+local_same here h (type.Int at) name None (Some call) e = (
+  refl,
+  (
+    refl,
+    (
+      with_one name.from (rule 17 right_side_fits) _ (value_fits (type_of here call) (call_type_first here h.first call e.1)),
+      same_append (phrase_nodes here call ++ []) [] (same_append (phrase_nodes here call) [] (call_same here h.first h.main call e.1) tt) tt,
+    ),
+  ),
+)
 local_same here h (type.Bool at) name None (Some call) e = absurd cc
 local_same here h (type.Named at n) name None (Some call) e = absurd cc
 local_same here h t name (Some dimension) initialiser e = absurd e
@@ -150,7 +156,8 @@ can_give_int here (Typed at (type.Named t n)) e value h = absurd cc
 
 pub result_same : (a : Action) → IsResult a → (here : Here) → FirstHere here → (result : ResultType) → is_int_result result ≡ true → here.body ≡ InMember result
     → AllSame (action_walk a here).nodes
-result_same (action.Gives at value) e here first result int body =
-    (with_one at (rule 24 rtf_fits) _ (ap (λ body. can_give here body value) body ∙ can_give_int here result int value (type_first here first value e)),
-    phrase_same here first value e)
+result_same (action.Gives at value) e here first result int body = (
+  with_one at (rule 24 rtf_fits) _ (ap (λ body. can_give here body value) body ∙ can_give_int here result int value (type_first here first value e)),
+  phrase_same here first value e,
+)
 result_same other e here first result int body = absurd e

@@ -1,20 +1,21 @@
 -- Expressions of the first form, and what the type rules see of them.
-use Rattle.std.proofs.Common.{◌≡◌, Bool, true, false, ◌&&◌, List, map, sym, refl, subst, ◌∙◌, true≢false}
-use Rattle.mpl_ast.specs.declared.expression.Conjunction.{Conjunction, fold-Conjunction, fold-roll-Conjunction, map-Conjunction, roll-Conjunction}
-use Rattle.mpl_ast.specs.declared.expression.Equality.{Equality, fold-Equality, fold-roll-Equality, map-Equality, roll-Equality}
-use Rattle.mpl_ast.specs.declared.expression.Expression.{Expression, fold-Expression, fold-roll-Expression, map-Expression, roll-Expression, ind-Expression}
-use Rattle.mpl_ast.specs.declared.expression.Place.{Place, fold-Place, fold-roll-Place, map-Place, roll-Place}
-use Rattle.mpl_ast.specs.declared.expression.Primary.{Primary, fold-Primary, fold-roll-Primary, map-Primary, roll-Primary}
-use Rattle.mpl_ast.specs.declared.expression.Relation.{Relation, fold-Relation, fold-roll-Relation, map-Relation, roll-Relation}
-use Rattle.mpl_ast.specs.declared.expression.Sum.{Sum, fold-Sum, fold-roll-Sum, map-Sum, roll-Sum}
-use Rattle.mpl_ast.specs.declared.expression.Term.{Term, fold-Term, fold-roll-Term, map-Term, roll-Term}
-use Rattle.mpl_ast.specs.declared.expression.Unary.{Unary, fold-Unary, fold-roll-Unary, map-Unary, roll-Unary}
+use Rattle.std.proofs.Common.{◌≡◌, Bool, true, false, ◌&&◌, map, sym, refl, subst, ◌∙◌, true≢false}
+use Rattle.mpl_ast.specs.declared.expression.Conjunction.{Conjunction, fold-roll-Conjunction, map-Conjunction, roll-Conjunction}
+use Rattle.mpl_ast.specs.declared.expression.Equality.{Equality, fold-roll-Equality, map-Equality, roll-Equality}
+use Rattle.mpl_ast.specs.declared.expression.Expression.{Expression, fold-roll-Expression, map-Expression, roll-Expression, ind-Expression}
+use Rattle.mpl_ast.specs.declared.expression.Place.{Place, fold-roll-Place, map-Place, roll-Place}
+use Rattle.mpl_ast.specs.declared.expression.Primary.{Primary, fold-roll-Primary, map-Primary, roll-Primary}
+use Rattle.mpl_ast.specs.declared.expression.Relation.{Relation, fold-roll-Relation, map-Relation, roll-Relation}
+use Rattle.mpl_ast.specs.declared.expression.Sum.{Sum, fold-roll-Sum, map-Sum, roll-Sum}
+use Rattle.mpl_ast.specs.declared.expression.Term.{Term, fold-roll-Term, map-Term, roll-Term}
+use Rattle.mpl_ast.specs.declared.expression.Unary.{Unary, fold-roll-Unary, map-Unary, roll-Unary}
 use Rattle.mpl_ast.specs.declared.expression.Conjunction.TheOpen.{Conjunction-F, Equality-F, Expression-F, Place-F, Primary-F, Relation-F, Sum-F, Term-F, Unary-F}
 use Rattle.mpl_ast.specs.declared.expression.TermOperator.TheVariants as term
 use Rattle.mpl_mean.specs.FirstForm.{is_variable, is_first_conjunction, is_first_equality, is_first_expression, is_first_place, is_first_primary, is_first_relation, is_first_sum, is_first_term, is_first_unary}
 use Rattle.mpl_mean.specs.FirstForm as first
 use Rattle.mpl_mean.specs.Phrases.{Phrase, phrase_of, phrase_of_place}
 use Rattle.mpl_mean.specs.Phrases as phrase
+use Rattle.mpl_mean.proofs.Levels.{phrase_of_conjunction, phrase_of_equality, phrase_of_primary, phrase_of_relation, phrase_of_sum, phrase_of_term, phrase_of_unary}
 
 -- of numbers and variables, with `+`, `-` and `*`
 abbrev pub IsFirst : Phrase → Type 0
@@ -26,34 +27,6 @@ IsFirst other = ⊥
 pub both_true : (a b : Bool) → (a && b) ≡ true → (a ≡ true) × (b ≡ true)
 both_true true b e = (refl, e)
 both_true false b e = absurd cc
-
-abbrev pub phrase_of_conjunction : Conjunction → Phrase
-phrase_of_conjunction = fold-Conjunction Phrase Phrase Phrase Phrase Phrase Phrase Phrase Phrase Phrase
-    phrase.conjunction_step phrase.equality_step phrase.expression_step phrase.place_step phrase.primary_step phrase.relation_step phrase.sum_step phrase.term_step phrase.unary_step
-
-abbrev pub phrase_of_equality : Equality → Phrase
-phrase_of_equality = fold-Equality Phrase Phrase Phrase Phrase Phrase Phrase Phrase Phrase Phrase
-    phrase.conjunction_step phrase.equality_step phrase.expression_step phrase.place_step phrase.primary_step phrase.relation_step phrase.sum_step phrase.term_step phrase.unary_step
-
-abbrev pub phrase_of_primary : Primary → Phrase
-phrase_of_primary = fold-Primary Phrase Phrase Phrase Phrase Phrase Phrase Phrase Phrase Phrase
-    phrase.conjunction_step phrase.equality_step phrase.expression_step phrase.place_step phrase.primary_step phrase.relation_step phrase.sum_step phrase.term_step phrase.unary_step
-
-abbrev pub phrase_of_relation : Relation → Phrase
-phrase_of_relation = fold-Relation Phrase Phrase Phrase Phrase Phrase Phrase Phrase Phrase Phrase
-    phrase.conjunction_step phrase.equality_step phrase.expression_step phrase.place_step phrase.primary_step phrase.relation_step phrase.sum_step phrase.term_step phrase.unary_step
-
-abbrev pub phrase_of_sum : Sum → Phrase
-phrase_of_sum = fold-Sum Phrase Phrase Phrase Phrase Phrase Phrase Phrase Phrase Phrase
-    phrase.conjunction_step phrase.equality_step phrase.expression_step phrase.place_step phrase.primary_step phrase.relation_step phrase.sum_step phrase.term_step phrase.unary_step
-
-abbrev pub phrase_of_term : Term → Phrase
-phrase_of_term = fold-Term Phrase Phrase Phrase Phrase Phrase Phrase Phrase Phrase Phrase
-    phrase.conjunction_step phrase.equality_step phrase.expression_step phrase.place_step phrase.primary_step phrase.relation_step phrase.sum_step phrase.term_step phrase.unary_step
-
-abbrev pub phrase_of_unary : Unary → Phrase
-phrase_of_unary = fold-Unary Phrase Phrase Phrase Phrase Phrase Phrase Phrase Phrase Phrase
-    phrase.conjunction_step phrase.equality_step phrase.expression_step phrase.place_step phrase.primary_step phrase.relation_step phrase.sum_step phrase.term_step phrase.unary_step
 
 abbrev Good-Conjunction : Conjunction → Type 0
 Good-Conjunction t = is_first_conjunction t ≡ true → IsFirst (phrase_of_conjunction t)

@@ -1,5 +1,5 @@
 -- At the nodes inside the bodies of a program of the first form, only the seven rules of that form can fail.
-use Rattle.std.proofs.Common.{◌≡◌, ℕ, Bool, true, false, ◌&&◌, not, List, [], ◌∷◌, ◌++◌, map, Option, Some, None, if◌then◌else◌, refl, ap, ap₂, sym, subst, ◌∙◌}
+use Rattle.std.proofs.Common.{◌≡◌, ℕ, Bool, true, not, List, [], ◌∷◌, ◌++◌, map, Option, Some, None, if◌then◌else◌, refl, ap, ap₂}
 use Rattle.mpl_ast.specs.declared.class.ResultType.{ResultType}
 use Rattle.mpl_ast.specs.declared.class.ResultType.TheVariants.{Void, Typed}
 use Rattle.mpl_ast.specs.declared.expression.Target.{Target}
@@ -7,7 +7,7 @@ use Rattle.mpl_ast.specs.declared.expression.Target.TheVariants as target
 use Rattle.mpl_ast.specs.declared.place.Name.{Name}
 use Rattle.mpl_mean.specs.CallRules.{member_call_fits, call_is_in_place, call_may_stand, void_call_is_alone, member_has_value}
 use Rattle.mpl_mean.specs.ClassRules.{has_value}
-use Rattle.mpl_mean.specs.ExpressionRules.{operands_fit, binary_fits, can_be_printed, right_side_fits}
+use Rattle.mpl_mean.specs.ExpressionRules.{operands_fit, binary_fits}
 use Rattle.mpl_mean.specs.Layout.{Member}
 use Rattle.mpl_mean.specs.Nodes.{Node, Placed, place, phrase_nodes, nodes_of_each, target_nodes, call_nodes}
 use Rattle.mpl_mean.specs.Nodes as node
@@ -15,7 +15,7 @@ use Rattle.mpl_mean.specs.Phrases.{Phrase, Phrases}
 use Rattle.mpl_mean.specs.Phrases as phrase
 use Rattle.mpl_mean.specs.Rules.{Failure, Rule, rule, rules, first_rules, failures_at, failures_among}
 use Rattle.mpl_mean.specs.Scopes.{Here, InMain, is_persistent}
-use Rattle.mpl_mean.specs.Types.{ValueType, OfInt, OfBool, OfStruct, OfClass}
+use Rattle.mpl_mean.specs.Types.{ValueType, OfInt}
 use Rattle.mpl_mean.specs.Typing.{type_of, member_called, target_shape, variable_shape}
 use Rattle.mpl_mean.specs.FirstForm.{is_variable, is_int_result}
 use Rattle.mpl_mean.proofs.FirstActions.{AreFirst, IsFirstCall}
@@ -100,10 +100,13 @@ called_first here first (target.Variable at v) name h = member_first here.declar
 called_first here first (target.Field at v f) name h = absurd cc
 
 pub call_same : (here : Here) → FirstHere here → here.body ≡ InMain → (p : Phrase) → IsFirstCall p → AllSame (phrase_nodes here p)
-call_same here first main (phrase.CallOnTarget at t member arguments) h =
-    (with_one at (rule 20 void_call_is_alone) _ (has_value_first (member_called here (Some t) member.text) (called_first here first t member.text h.0)),
-    (with_second at (rule 19 member_call_fits) (rule 21 call_is_in_place) _ _ (ap (λ body. call_may_stand body (is_persistent here.class) (target_shape here t)) main),
-    (refl, same_append (target_nodes here t) (nodes_of_each here arguments) (target_same here t h.0) (each_same here first arguments h.1))))
+call_same here first main (phrase.CallOnTarget at t member arguments) h = (
+  with_one at (rule 20 void_call_is_alone) _ (has_value_first (member_called here (Some t) member.text) (called_first here first t member.text h.0)),
+  (
+    with_second at (rule 19 member_call_fits) (rule 21 call_is_in_place) _ _ (ap (λ body. call_may_stand body (is_persistent here.class) (target_shape here t)) main),
+    (refl, same_append (target_nodes here t) (nodes_of_each here arguments) (target_same here t h.0) (each_same here first arguments h.1)),
+  ),
+)
 call_same here first main other h = absurd h
 
 pub call_type_first : (here : Here) → FirstHere here → (p : Phrase) → IsFirstCall p → IsFirstType (type_of here p)

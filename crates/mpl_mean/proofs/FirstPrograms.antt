@@ -17,10 +17,10 @@ use Rattle.mpl_ast.specs.declared.statement.Statement.{Statement}
 use Rattle.mpl_ast.specs.declared.statement.TypeName.{TypeName}
 use Rattle.mpl_ast.specs.declared.statement.TypeName.TheVariants as type
 use Rattle.mpl_mean.specs.Actions.{action_of, in_turn}
-use Rattle.mpl_mean.specs.ClassRules.{has_value, member_gives_value, member_may_have}
+use Rattle.mpl_mean.specs.ClassRules.{member_gives_value, member_may_have}
 use Rattle.mpl_mean.specs.FirstForm.{are_first, are_ints, gives_result, is_class, is_first_form, is_first_item, is_first_statement, is_int, is_int_result, is_one_result, is_without_formals}
 use Rattle.mpl_mean.specs.FirstForm as first
-use Rattle.mpl_mean.specs.Layout.{formals_of, state_of}
+use Rattle.mpl_mean.specs.Layout.{formals_of}
 use Rattle.mpl_mean.specs.Nodes.{place}
 use Rattle.mpl_mean.specs.Nodes as node
 use Rattle.mpl_mean.specs.ProgramNodes.{Before, Inside, declaration_at, declaration_nodes, declared_name, parts_nodes, formal_nodes, inner_nodes, inside_declaration, inside_item, insides, item_nodes, nodes, nodes_inside, outline_nodes, result_nodes, surrounding}
@@ -116,11 +116,16 @@ main_inside : (ds : List Declaration) → OnlyFirst ds → (d : Declaration) →
 main_inside ds only (declaration.Struct at line name fields) h = absurd cc
 main_inside ds only (declaration.Class at line kind name items) h = absurd cc
 main_inside ds only (declaration.Function at result name None body) h =
-    let e = main_parts (is_int result) (bytes_eq name.text (codes "main")) true (list_all is_first_statement body.statements) h in
-    ((refl, statements_same body.statements e.3 _ (record {
-      first = record { program = only; locals = tt; formals = tt; state = tt };
-      main = ap (λ t. if t then InMain else InFunction result) e.1;
-    })), tt)
+    let e = main_parts (is_int result) (bytes_eq name.text (codes "main")) true (list_all is_first_statement body.statements) h in (
+      (
+        refl,
+        statements_same body.statements e.3 _ (record {
+          first = record { program = only; locals = tt; formals = tt; state = tt };
+          main = ap (λ t. if t then InMain else InFunction result) e.1;
+        }),
+      ),
+      tt,
+    )
 main_inside ds only (declaration.Function at result name (Some fs) body) h =
     let e = main_parts (is_int result) (bytes_eq name.text (codes "main")) false (list_all is_first_statement body.statements) h in absurd cc
 
@@ -164,10 +169,14 @@ items_same here before (item.OfField at field ∷ is) h = absurd cc
 items_same here before (item.Member at result name fs body ∷ is) h =
     let b = both_true (is_first_item (item.Member at result name fs body)) (list_all is_first_item is) h in
     let c = both_true (is_int_result result && are_ints fs) (is_one_result body.statements) b.0 in
-    let d = both_true (is_int_result result) (are_ints fs) c.0 in
-    (with_second at.span.from (rule 8 count_fits) (rule 25 member_gives_value) _ _ (int_value result (is_persistent here.class) d.0),
-    (refl, same_append (result_nodes result here ++ formal_nodes here 0 [] (formals_of fs)) _
-    (same_append (result_nodes result here) _ (result_nodes_same here result d.0) (formals_same here fs d.1)) (items_same here (record before { names = before.names ++ name.text ∷ []; members = before.members + 1 }) is b.1)))
+    let d = both_true (is_int_result result) (are_ints fs) c.0 in (
+      with_second at.span.from (rule 8 count_fits) (rule 25 member_gives_value) _ _ (int_value result (is_persistent here.class) d.0),
+      (
+        refl,
+        same_append (result_nodes result here ++ formal_nodes here 0 [] (formals_of fs)) _
+            (same_append (result_nodes result here) _ (result_nodes_same here result d.0) (formals_same here fs d.1)) (items_same here (record before { names = before.names ++ name.text ∷ []; members = before.members + 1 }) is b.1),
+      ),
+    )
 items_same here before (item.Select at line entries ∷ is) h = absurd cc
 items_same here before (item.Public at ∷ is) h = absurd cc
 items_same here before (item.Private at ∷ is) h = absurd cc

@@ -1,29 +1,26 @@
 -- What names stand for in a program of the first form, and the types of its expressions: `int`, where they have one.
-use Rattle.std.proofs.Common.{◌≡◌, ℕ, ◌+◌, Bool, true, false, ◌&&◌, List, [], ◌∷◌, ◌++◌, map, Option, Some, None, if◌then◌else◌, refl}
+use Rattle.std.proofs.Common.{◌≡◌, ℕ, ◌+◌, Bool, true, false, ◌&&◌, List, [], ◌∷◌, ◌++◌, Option, Some, None, if◌then◌else◌, refl}
 use Rattle.std.specs.Prelude.{flat_map}
 use Rattle.std.specs.List.{list_all}
 use Rattle.std.specs.Option.{option_and_then}
 use Rattle.std.specs.Str.{bytes_eq}
-use Rattle.mpl_ast.specs.declared.class.Formal.{Formal}
 use Rattle.mpl_ast.specs.declared.class.Item.{Item}
 use Rattle.mpl_ast.specs.declared.class.Item.TheVariants as item
-use Rattle.mpl_ast.specs.declared.class.Kind.{Kind}
 use Rattle.mpl_ast.specs.declared.class.Kind.TheVariants.{Regular, Persistent}
 use Rattle.mpl_ast.specs.declared.class.ResultType.{ResultType}
 use Rattle.mpl_ast.specs.declared.class.ResultType.TheVariants as result
-use Rattle.mpl_ast.specs.declared.expression.Target.{Target}
 use Rattle.mpl_ast.specs.declared.expression.Target.TheVariants as target
 use Rattle.mpl_ast.specs.declared.program.Declaration.{Declaration}
 use Rattle.mpl_ast.specs.declared.program.Declaration.TheVariants as declaration
 use Rattle.mpl_ast.specs.declared.statement.Dimension.{Dimension}
 use Rattle.mpl_ast.specs.declared.statement.TypeName.{TypeName}
 use Rattle.mpl_ast.specs.declared.statement.TypeName.TheVariants as type
-use Rattle.mpl_mean.specs.FirstForm.{are_first, is_class, is_main, is_first_item, is_int_result, is_one_result, are_ints, is_regular, is_variable}
+use Rattle.mpl_mean.specs.FirstForm.{are_first, is_class, is_main, is_first_item, is_int_result, is_one_result, are_ints}
 use Rattle.mpl_mean.specs.Layout.{Member, member_named, members_from, state_of}
 use Rattle.mpl_mean.specs.Phrases.{Phrase}
 use Rattle.mpl_mean.specs.Phrases as phrase
-use Rattle.mpl_mean.specs.Scopes.{Here, Surrounding, state_members, variable_of}
-use Rattle.mpl_mean.specs.Types.{AnInt, ABool, AStruct, AClass, Nothing, Meant, meant, meant_by, Role, AsLocal, AsFormal, AsResult, InState, InStruct, Declared, first_named, Shape, OneValue, AnArray, ARegular, OfInt, OfBool, OfStruct, OfClass, shape_of, shape_of_meant, result_type, ValueType}
+use Rattle.mpl_mean.specs.Scopes.{Here, state_members}
+use Rattle.mpl_mean.specs.Types.{AClass, Nothing, Meant, meant, meant_by, Role, AsLocal, AsFormal, AsResult, InState, InStruct, Declared, first_named, Shape, OneValue, AnArray, ARegular, OfInt, shape_of, shape_of_meant, result_type, ValueType}
 use Rattle.mpl_mean.specs.Typing.{variable_shape, type_of_whole, type_of_binary, type_of, items_called, member_of, type_of_call}
 use Rattle.mpl_mean.proofs.FirstExpressions.{IsFirst, both_true}
 

@@ -2,6 +2,7 @@ mod TokenCount
 mod WorkedRun
 mod WorkedTokens
 mod Shown
+mod Levels
 mod Expressions
 mod Statements
 mod Programs
