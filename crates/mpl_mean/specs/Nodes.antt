@@ -33,7 +33,9 @@ pub data Node : Type 0 where
   AnEntry : (before : ℕ) → Node
   -- a function or member, with its formals and all its locals
   Routine : List Declared → Node
+  -- a field or `select` of a class
   AState : Node
+  -- the number of a dimension, and the type of its elements
   ADimension : TypeName → ℤ → Node
   APriority : ℤ → Node
   AGuard : Phrase → Node
@@ -50,6 +52,7 @@ pub data Node : Type 0 where
   ACall : (receiver : Option Target) → (member : Name) → Phrases → Node
   -- a call that is no whole statement
   PassedOn : (receiver : Option Target) → (member : Name) → Node
+  -- a `self`
   AnOwn : Node
   AnInput : Node
   ALocal : Declared → (initialiser : Option Phrase) → Node

@@ -128,7 +128,8 @@ shape_of_meant AsLocal dimension (AClass name true items) = Some (ARegular items
 shape_of_meant role None m = option_map OneValue (value_type role m)
 shape_of_meant role (Some dimension) m = option_map AnArray (value_type role m)
 
--- a variable or field whose type may not stand where it is written has no shape, but for a local
+-- A variable or field whose type isn't known or may not stand where it is written has no shape. A local of a regular
+-- class has one, with a dimension too.
 abbrev pub shape_of : List Declaration → Option Declared → Option Shape
 shape_of ds None = None
 shape_of ds (Some d) = shape_of_meant d.role d.dimension (meant ds d.type)

@@ -37,7 +37,7 @@ abbrev pub type_of_whole : Option Shape → Option ValueType
 type_of_whole (Some (OneValue type)) = Some type
 type_of_whole shape = None
 
--- an index whose type isn't there does
+-- The index is `int`, or has no type.
 abbrev pub type_of_element : Option Shape → Option ValueType → Option ValueType
 type_of_element (Some (AnArray type)) index = if agree (Some OfInt) index then Some type else None
 type_of_element shape index = None
