@@ -9,13 +9,9 @@ use Rattle.mpl_mean.specs.Layout.{is_regular, natural, state_of, words_of_fields
 use Rattle.mpl_mean.specs.Nodes.{Node}
 use Rattle.mpl_mean.specs.Nodes as node
 use Rattle.mpl_mean.specs.Scopes.{Here}
-use Rattle.mpl_mean.specs.Types.{Meant, AnInt, ABool, AStruct, AClass, Nothing, meant, Role, AsLocal, is_field, words_of_variables, words_of_state}
+use Rattle.mpl_mean.specs.Types.{Meant, AnInt, ABool, AStruct, AClass, Nothing, meant, Role, is_field, is_local, words_of_variables, words_of_state}
 
 -- ---- rule 4
-
-abbrev pub is_local : Role → Bool
-is_local AsLocal = true
-is_local role = false
 
 abbrev pub meant_may_stand : Role → Bool → Meant → Bool
 meant_may_stand role bare AnInt = true

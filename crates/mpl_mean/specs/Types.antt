@@ -79,6 +79,10 @@ abbrev pub is_field : Role → Bool
 is_field InStruct = true
 is_field role = false
 
+abbrev pub is_local : Role → Bool
+is_local AsLocal = true
+is_local role = false
+
 -- The type of a value with a type that is written there. It has none where that may not stand there.
 abbrev pub value_type : Role → Meant → Option ValueType
 value_type role AnInt = Some OfInt
@@ -123,10 +127,13 @@ pub data Shape : Type 0 where
   AnArray : ValueType → Shape
   ARegular : List Item → Shape
 
+abbrev pub shape_with : Option Dimension → ValueType → Shape
+shape_with None type = OneValue type
+shape_with (Some dimension) type = AnArray type
+
 abbrev pub shape_of_meant : Role → Option Dimension → Meant → Option Shape
-shape_of_meant AsLocal dimension (AClass name true items) = Some (ARegular items)
-shape_of_meant role None m = option_map OneValue (value_type role m)
-shape_of_meant role (Some dimension) m = option_map AnArray (value_type role m)
+shape_of_meant role dimension (AClass name true items) = if is_local role then Some (ARegular items) else None
+shape_of_meant role dimension m = option_map (shape_with dimension) (value_type role m)
 
 -- A variable or field whose type isn't known or may not stand where it is written has no shape. A local of a regular
 -- class has one, with a dimension too.
