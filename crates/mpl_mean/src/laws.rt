@@ -1,11 +1,13 @@
-ghost use Rattle.std.specs.Prelude.{◌≡◌, ◌≢◌, ◌≤◌, ℕ, List, length, Ok};
+ghost use Rattle.std.specs.Prelude.{◌≡◌, ◌≢◌, ◌≤◌, ◌↔◌, ℕ, List, length, true, Ok, Some, None};
 ghost use Rattle.std.specs.FinMap.{FinMap};
 ghost use Rattle.std.specs.Ordering.{nat_cmp};
 ghost use Rattle.mpl_ast.specs.declared.program.Program.{Program};
 ghost use Rattle.mpl_ast.specs.declared.token.Token.{Token};
 ghost use Rattle.mpl_mean.specs.BodyMeaning.{yield_of};
+ghost use Rattle.mpl_mean.specs.FirstForm.{is_first_form};
 ghost use Rattle.mpl_mean.specs.Lexemes.{tokens_of};
 ghost use Rattle.mpl_mean.specs.MoreReplies.{AreAmong, Grows};
+ghost use Rattle.mpl_mean.specs.Rules.{Failure, fails, failures, first_failures, is_typed, least_failure, IsNotBehind};
 ghost use Rattle.mpl_value.specs.declared.body.BodyEnd.TheVariants as end;
 ghost use Rattle.mpl_value.specs.declared.body.BodyStart.{BodyStart};
 ghost use Rattle.mpl_value.specs.declared.known.Known.{Known};
@@ -13,6 +15,20 @@ ghost use Rattle.mpl_value.specs.declared.known.Known.{Known};
 /// A source has no more tokens than bytes.
 pub fn tokens_are_few()
     ensures { (source : List ℕ) (tokens : List Token) → tokens_of source ≡ Ok tokens → length tokens ≤ length source }
+{}
+
+/// A refusal names a rule that fails at its byte, and of all that fail none comes before it: not at a
+/// byte before, and no rule of a smaller number at the same byte. There is none exactly where no rule fails.
+pub fn refusals_are_least()
+    ensures fails { (p : Program) (f : Failure) → least_failure p ≡ Some f → fails p f.rule f.at ≡ true }
+    ensures least { (p : Program) (f : Failure) (number at : ℕ) →
+        least_failure p ≡ Some f → fails p number at ≡ true → IsNotBehind f (record { at = at; rule = number }) }
+    ensures typed { (p : Program) → is_typed p ≡ true ↔ least_failure p ≡ None }
+{}
+
+/// In a program of the first form no rule can fail but the seven that are tried there.
+pub fn seven_rules_are_enough()
+    ensures { (p : Program) → is_first_form p ≡ true → failures p ≡ first_failures p }
 {}
 
 /// A body that has enough turns does the same with more.

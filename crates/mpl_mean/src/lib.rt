@@ -1,6 +1,9 @@
-//! The meaning of the language: which text a program has, and what it does. Definitions, and laws about them.
+//! The meaning of the language: which text a program has, which programs are well typed, and what they
+//! do. Definitions, and laws about them.
 #![tactic(auto)]
 
 mod laws;
 
-pub use laws::{more_replies_only_add, more_turns_change_nothing, tokens_are_few};
+pub use laws::{
+    more_replies_only_add, more_turns_change_nothing, refusals_are_least, seven_rules_are_enough, tokens_are_few,
+};
