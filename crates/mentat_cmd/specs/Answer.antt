@@ -2,7 +2,6 @@
 use Rattle.std.specs.Prelude.{◌≡◌, ℕ, ◌<◌, List, Option, Some, None, length, IfSome, IsSome}
 use Rattle.mentat_io.specs.Causes.{Rose}
 use Rattle.mentat_io.specs.Shelf.{Files, IsStartOf, file_named}
-use Rattle.mpl_mean.specs.DirectRun.{IsOver}
 use Rattle.mpl_value.specs.declared.body.BodyEnd.{BodyEnd}
 use Rattle.mpl_value.specs.declared.body.BodyEnd.TheVariants as end
 use Rattle.mpl_value.specs.declared.body.Yield.{Yield}
@@ -25,6 +24,17 @@ IsRead files name source = IfSome files (λ fs. IsStartOf 1048577 fs name source
 abbrev pub Output : Type 1
 Output = List ℕ → Type 0
 
+-- a run whose lines are written: its turns didn't run out
+abbrev pub IsWritten : BodyEnd → Type 0
+IsWritten end.Done = Unit {0}
+IsWritten (end.Trap trap) = Unit {0}
+IsWritten end.Waits = Unit {0}
+IsWritten end.Spent = ⊥
+
+-- nothing is said of what was written
+abbrev pub nothing_written : Output
+nothing_written lines = Unit {0}
+
 -- the run of the source ended so, in so many turns, and its lines were written so
 pub record Finishes (source : List ℕ) (turns : ℕ) (ending : Yield → Type 0) (output : Output) : Type 0 where
   pub done : Yield
@@ -38,7 +48,9 @@ pub record Finishes (source : List ℕ) (turns : ℕ) (ending : Yield → Type 0
 abbrev pub Answers : List ℕ → (whole front : Output) → (fault : Type 0) → Status → ℕ → Type 0
 Answers source whole front fault status.Done turns = Finishes source turns (λ y. y.end ≡ end.Done) whole
 Answers source whole front fault (status.Trap trap) turns = Finishes source turns (λ y. y.end ≡ end.Trap trap) whole
-Answers source whole front fault status.WriteFault turns = Finishes source turns (λ y. IsOver y.end) front × fault
+Answers source whole front fault status.Stuck turns = Finishes source turns (λ y. y.end ≡ end.Waits) whole
+Answers source whole front fault status.Spent turns = Finishes source turns (λ y. y.end ≡ end.Spent) nothing_written
+Answers source whole front fault status.WriteFault turns = Finishes source turns (λ y. IsWritten y.end) front × fault
 Answers source whole front fault status.TooLong turns = (source_limit < length source) × (turns ≡ 0)
 Answers source whole front fault (status.Unbuilt at) turns = SpellsNothing source × (at ≡ 0) × (turns ≡ 0)
 Answers source whole front fault status.NoMemory turns = turns ≡ 0
@@ -61,18 +73,22 @@ IsThere (Some fs) None = ⊥
 abbrev pub LeavesOutput : Status → Type 0
 LeavesOutput status.Done = ⊥
 LeavesOutput (status.Trap trap) = ⊥
+LeavesOutput status.Stuck = ⊥
 LeavesOutput status.WriteFault = ⊥
 LeavesOutput _ = Unit {0}
 
--- a run that ended so has the status
+-- a run whose lines are written has the status
 abbrev pub IsStatusOf : BodyEnd → Status → Type 0
 IsStatusOf e status.Done = e ≡ end.Done
 IsStatusOf e (status.Trap trap) = e ≡ end.Trap trap
+IsStatusOf e status.Stuck = e ≡ end.Waits
 IsStatusOf e _ = ⊥
 
--- how a run that is over ends, as a status
+-- how a run ends, as a status
 abbrev pub Ends : Yield → (whole front : Output) → (fault : Type 0) → Status → Type 0
 Ends y whole front fault status.Done = (y.end ≡ end.Done) × whole y.lines
 Ends y whole front fault (status.Trap trap) = (y.end ≡ end.Trap trap) × whole y.lines
-Ends y whole front fault status.WriteFault = front y.lines × fault
+Ends y whole front fault status.Stuck = (y.end ≡ end.Waits) × whole y.lines
+Ends y whole front fault status.Spent = y.end ≡ end.Spent
+Ends y whole front fault status.WriteFault = IsWritten y.end × front y.lines × fault
 Ends y whole front fault _ = ⊥

@@ -3,7 +3,7 @@ use Rattle.std.specs.Prelude.{◌≡◌, ℕ, ◌≤◌, true, List, [], length,
 use Rattle.mpl_ast.specs.declared.program.Program.{Program}
 use Rattle.mpl_ast.specs.declared.token.Token.{Token}
 use Rattle.mpl_mean.specs.FirstForm.{is_first_form}
-use Rattle.mpl_mean.specs.DirectRun.{direct_run, IsOver}
+use Rattle.mpl_mean.specs.DirectRun.{direct_run}
 use Rattle.mpl_mean.specs.Lexemes.{tokens_of}
 use Rattle.mpl_mean.specs.ProgramText.{spells}
 use Rattle.mpl_mean.specs.Weight.{is_light}
@@ -36,6 +36,6 @@ pub record Runs (source : List ℕ) (y : Yield) : Type 0 where
 
 -- what is said of a source: its run, or that there is none
 abbrev pub Ran : List ℕ → Result Yield Refusal → Type 0
-Ran source (Ok y) = Runs source y × IsOver y.end
+Ran source (Ok y) = Runs source y
 Ran source (Err refusal.Unbuilt) = SpellsNothing source
 Ran source (Err refusal.NoMemory) = Unit {0}

@@ -7,6 +7,8 @@ abbrev pub number_of : Status → ℕ
 number_of status.Done = 0
 number_of status.Usage = 1
 number_of (status.Trap trap) = 3
+number_of status.Spent = 4
+number_of status.Stuck = 5
 number_of status.ReadFault = 6
 number_of status.WriteFault = 7
 number_of status.NoMemory = 9

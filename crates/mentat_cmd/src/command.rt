@@ -1,9 +1,9 @@
 ghost use Rattle.std.specs.Prelude.{◌≡◌, ◌↔◌, ◌≢◌, ℕ, List, None, IfSome, IsTrue, IsSome};
 ghost use Rattle.mentat_io.specs.Causes.{Rose};
-ghost use Rattle.mentat_cmd.specs.Answer.{Answered, Answers, Ends, IsStatusOf, IsThere, LeavesOutput};
+ghost use Rattle.mentat_cmd.specs.Answer.{Answered, Answers, Ends, IsStatusOf, IsThere, IsWritten, LeavesOutput};
 ghost use Rattle.mentat_cmd.specs.Output.{Appends, AppendsFront};
-ghost use Rattle.mpl_mean.specs.DirectRun.{IsOver};
 ghost use Rattle.mentat_cmd.specs.Words.{file_of};
+ghost use Rattle.mpl_value.specs.declared.body.Yield.{Yield};
 
 use crate::output::write_all;
 use crate::run::{Refusal, run};
@@ -77,16 +77,16 @@ fn answer<K: Sink>(alloc: Global, source: &[u8], out: &mut K) -> Ending
     }
 }
 
-// Writes what a run printed.
+// Writes what a run printed, if its turns didn't run out.
 fn finish<K: Sink>(done: &Yield, out: &mut K) -> Ending
-    requires { IsOver done.now.end }
     ensures ends { Ends done.now (Appends (K.written out.old) (K.written out.new)) (AppendsFront (K.written out.old) (K.written out.new))
         (Rose (K.faults out.old) (K.faults out.new)) result.status }
     ensures turns { result.turns ≡ done.now.turns }
+    ensures unwritten { LeavesOutput result.status → out.new ≡ out.old }
 {
-    let status = match write_all(out, done.lines.as_slice()) {
-        Ok(()) => status_of(done.end),
-        Err(Failed) => Status::WriteFault,
+    let status = match done.end {
+        BodyEnd::Spent => Status::Spent,
+        end => written(end, done.lines.as_slice(), out),
     };
     Ending {
         status,
@@ -94,14 +94,28 @@ fn finish<K: Sink>(done: &Yield, out: &mut K) -> Ending
     }
 }
 
-// The status of a run that is over.
+// Writes the lines of a run that ended so.
+fn written<K: Sink>(end: BodyEnd, lines: &[u8], out: &mut K) -> Status
+    requires { IsWritten end }
+    ensures ends { (y : Yield) → y.end ≡ end → y.lines ≡ lines.now → Ends y (Appends (K.written out.old) (K.written out.new)) (AppendsFront (K.written out.old) (K.written out.new))
+        (Rose (K.faults out.old) (K.faults out.new)) result }
+    ensures written { LeavesOutput result → ⊥ }
+{
+    match write_all(out, lines) {
+        Ok(()) => status_of(end),
+        Err(Failed) => Status::WriteFault,
+    }
+}
+
+// The status of a run whose lines are written.
 fn status_of(end: BodyEnd) -> Status
-    requires { IsOver end }
+    requires { IsWritten end }
     ensures { IsStatusOf end result }
 {
     match end {
         BodyEnd::Done => Status::Done,
         BodyEnd::Trap(trap) => Status::Trap(trap),
-        BodyEnd::Waits | BodyEnd::Spent => unreachable!(),
+        BodyEnd::Waits => Status::Stuck,
+        BodyEnd::Spent => unreachable!(),
     }
 }

@@ -15,7 +15,7 @@ pub const BUDGET: u64 = 1_000_000;
 /// Why a source didn't run.
 #[derive(Clone, Copy, Debug, PartialEq, Eq)]
 pub enum Refusal {
-    /// No program that is built so far has this source.
+    /// No program of the first form has this source.
     Unbuilt,
     NoMemory,
 }

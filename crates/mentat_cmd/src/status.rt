@@ -10,6 +10,10 @@ pub enum Status {
     Usage,
     /// `main` ended with this trap.
     Trap(Trap),
+    /// The turns of the budget ran out.
+    Spent,
+    /// `main` waits for a reply that doesn't come.
+    Stuck,
     /// The file could not be read.
     ReadFault,
     /// An output could not be written.
@@ -17,7 +21,7 @@ pub enum Status {
     NoMemory,
     /// The file is above its limit.
     TooLong,
-    /// The file holds no program that is built so far.
+    /// The file holds no program of the first form.
     Unbuilt(u64),
 }
 
@@ -32,6 +36,8 @@ impl Status {
             Status::Done => 0,
             Status::Usage => 1,
             Status::Trap(_) => 3,
+            Status::Spent => 4,
+            Status::Stuck => 5,
             Status::ReadFault => 6,
             Status::WriteFault => 7,
             Status::NoMemory => 9,
@@ -45,6 +51,7 @@ impl Status {
 #[derive(Clone, Copy, Debug, PartialEq, Eq)]
 pub struct Ending {
     pub status: Status,
-    /// The turns that the run took, also where its output could not be written, and 0 where nothing ran.
+    /// The turns that the run took, also where its output could not be written, and 0 where nothing ran. Where they
+    /// ran out it is one more than the budget.
     pub turns: u64,
 }

@@ -3,7 +3,7 @@ use native.Mathlib.Omega.{arith}
 use Rattle.std.specs.FinMap.{FinMap, empty}
 use Rattle.mpl_ast.specs.declared.program.Program.{Program}
 use Rattle.mpl_mean.specs.BodyMeaning.{yield_of}
-use Rattle.mpl_mean.specs.DirectRun.{direct_run, IsOver, main_start}
+use Rattle.mpl_mean.specs.DirectRun.{direct_run, main_start}
 use Rattle.mpl_value.specs.declared.body.BodyStart.{BodyStart}
 use Rattle.mpl_value.specs.declared.body.Yield.{Yield}
 use Rattle.mpl_value.specs.declared.known.Known.{Known}
@@ -20,7 +20,6 @@ runs_directly p y start replies turns told starts none =
 pub returns-in-Ok-walk : goal.returns-in-Ok-walk
 returns-in-Ok-walk c =
     let spelled : Spells c.args.source.now c.in-Ok-parse.program = search rules in
-    let over : IsOver c.in-Ok-walk.done.end = c.in-Ok-walk.ensures.over (omega arith) in
     let yield : c.in-Ok-walk.done ≡ direct_run c.in-Ok-parse.program [] 1000000 =
-    runs_directly c.in-Ok-parse.program c.in-Ok-walk.done c.start_of_main-start.result c.new-replies.result 1000000 c.in-Ok-walk.ensures.meaning c.start_of_main-start.ensures c.new-replies.ensures in
-    (record { program = c.in-Ok-parse.program; source_is = spelled; yield = yield }, over)
+    runs_directly c.in-Ok-parse.program c.in-Ok-walk.done c.start_of_main-start.result c.new-replies.result 1000000 c.in-Ok-walk.ensures c.start_of_main-start.ensures c.new-replies.ensures in
+    record { program = c.in-Ok-parse.program; source_is = spelled; yield = yield }
