@@ -17,3 +17,10 @@ pub mod StatementMeaning
 pub mod BodyMeaning
 pub mod DirectRun
 pub mod MoreReplies
+pub mod ExpressionTrees
+pub mod ProgramTrees
+pub mod WorkedYields
+pub mod CallPrograms
+pub mod TrapPrograms
+pub mod LoopPrograms
+pub mod ReplyPrograms

@@ -2,5 +2,9 @@
 #![tactic(auto)]
 
 mod laws;
+mod worked;
 
 pub use laws::{more_replies_only_add, more_turns_change_nothing, tokens_are_few};
+pub use worked::{
+    calls_have_their_yields, loops_have_their_turns, replies_are_awaited, traps_have_their_lines,
+};
