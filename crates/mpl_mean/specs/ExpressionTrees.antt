@@ -2,8 +2,8 @@
 -- numbers of nodes don't count.
 use Prim.Native.String.{String}
 use Rattle.std.specs.Prelude.{ℕ, List, codes, pos}
-use Rattle.mpl_ast.specs.declared.expression.Conjunction.{roll-Conjunction}
-use Rattle.mpl_ast.specs.declared.expression.Equality.{roll-Equality}
+use Rattle.mpl_ast.specs.declared.expression.Conjunction.{Conjunction, roll-Conjunction}
+use Rattle.mpl_ast.specs.declared.expression.Equality.{Equality, roll-Equality}
 use Rattle.mpl_ast.specs.declared.expression.Expression.{Expression, roll-Expression}
 use Rattle.mpl_ast.specs.declared.expression.Place.{Place, roll-Place}
 use Rattle.mpl_ast.specs.declared.expression.Primary.{Primary, roll-Primary}
@@ -12,10 +12,11 @@ use Rattle.mpl_ast.specs.declared.expression.Sum.{Sum, roll-Sum}
 use Rattle.mpl_ast.specs.declared.expression.Term.{Term, roll-Term}
 use Rattle.mpl_ast.specs.declared.expression.Unary.{Unary, roll-Unary}
 use Rattle.mpl_ast.specs.declared.expression.Conjunction.TheOpen.{Conjunction-F, Equality-F, Expression-F, Place-F, Primary-F, Relation-F, Sum-F, Term-F, Unary-F}
+use Rattle.mpl_ast.specs.declared.expression.EqualityOperator.TheVariants.{Equal}
 use Rattle.mpl_ast.specs.declared.expression.RelationOperator.TheVariants.{Less}
 use Rattle.mpl_ast.specs.declared.expression.SumOperator.TheVariants.{Plus, Minus}
 use Rattle.mpl_ast.specs.declared.expression.Target.TheVariants as target
-use Rattle.mpl_ast.specs.declared.expression.TermOperator.TheVariants.{Times, Over}
+use Rattle.mpl_ast.specs.declared.expression.TermOperator.TheVariants.{Times, Over, Modulo}
 use Rattle.mpl_ast.specs.declared.expression.UnaryOperator.TheVariants.{Not}
 use Rattle.mpl_ast.specs.declared.flow.Call.{Call, roll-Call}
 use Rattle.mpl_ast.specs.declared.flow.Flow.{Flow, roll-Flow}
@@ -79,7 +80,10 @@ times line left right = roll-Term (Term-F.Multiply (at line) line left Times (un
 abbrev pub over : ℕ → Term → Primary → Term
 over line left right = roll-Term (Term-F.Multiply (at line) line left Over (unary right))
 
-abbrev sum_of : Term → Sum
+abbrev pub modulo : ℕ → Term → Primary → Term
+modulo line left right = roll-Term (Term-F.Multiply (at line) line left Modulo (unary right))
+
+abbrev pub sum_of : Term → Sum
 sum_of t = roll-Sum (Sum-F.OneTerm (at 1) t)
 
 abbrev pub sum : Primary → Sum
@@ -94,8 +98,17 @@ minus line left right = roll-Sum (Sum-F.Add (at line) line left Minus right)
 abbrev relation_of : Sum → Relation
 relation_of s = roll-Relation (Relation-F.OneSum (at 1) s)
 
+abbrev equality_of : Relation → Equality
+equality_of r = roll-Equality (Equality-F.OneRelation (at 1) r)
+
+abbrev conjunction_of : Equality → Conjunction
+conjunction_of e = roll-Conjunction (Conjunction-F.OneEquality (at 1) e)
+
+abbrev conjoined : Conjunction → Expression
+conjoined c = roll-Expression (Expression-F.OneConjunction (at 1) c)
+
 abbrev expression_of : Relation → Expression
-expression_of r = roll-Expression (Expression-F.OneConjunction (at 1) (roll-Conjunction (Conjunction-F.OneEquality (at 1) (roll-Equality (Equality-F.OneRelation (at 1) r)))))
+expression_of r = conjoined (conjunction_of (equality_of r))
 
 abbrev pub not : Primary → Expression
 not p = expression_of (relation_of (sum_of (roll-Term (Term-F.OneUnary (at 1) (roll-Unary (Unary-F.Apply (at 1) 1 Not (unary p)))))))
@@ -112,6 +125,16 @@ only p = multiplied (term p)
 
 abbrev pub less : ℕ → Sum → Sum → Expression
 less line left right = expression_of (roll-Relation (Relation-F.Compare (at line) line (relation_of left) Less right))
+
+-- a primary expression and an equation, joined
+abbrev equation : ℕ → Sum → Sum → Equality
+equation line left right = roll-Equality (Equality-F.Equate (at line) line (equality_of (relation_of left)) Equal (relation_of right))
+
+abbrev pub and_equal : ℕ → Primary → Sum → Sum → Expression
+and_equal line p left right = conjoined (roll-Conjunction (Conjunction-F.And (at line) line (conjunction_of (equality_of (relation_of (sum p)))) (equation line left right)))
+
+abbrev pub or_equal : ℕ → Primary → Sum → Sum → Expression
+or_equal line p left right = roll-Expression (Expression-F.Or (at line) line (only p) (conjunction_of (equation line left right)))
 
 -- ---- flows and calls
 

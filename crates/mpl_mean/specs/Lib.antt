@@ -23,4 +23,5 @@ pub mod WorkedYields
 pub mod CallPrograms
 pub mod TrapPrograms
 pub mod LoopPrograms
+pub mod OrderPrograms
 pub mod ReplyPrograms

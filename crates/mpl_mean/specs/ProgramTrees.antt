@@ -23,7 +23,7 @@ use Rattle.mpl_ast.specs.declared.program.Program.{Program}
 use Rattle.mpl_ast.specs.declared.statement.Block.{Block}
 use Rattle.mpl_ast.specs.declared.statement.Declarator.TheVariants.{Plain, Initialized}
 use Rattle.mpl_ast.specs.declared.statement.Dimension.{Dimension}
-use Rattle.mpl_ast.specs.declared.statement.ForStart.TheVariants.{Assign}
+use Rattle.mpl_ast.specs.declared.statement.ForStart.TheVariants.{Assign, Declare}
 use Rattle.mpl_ast.specs.declared.statement.Statement.{Statement, roll-Statement}
 use Rattle.mpl_ast.specs.declared.statement.Statement.TheOpen.{Statement-F}
 use Rattle.mpl_ast.specs.declared.statement.TypeName.{TypeName}
@@ -77,6 +77,11 @@ while test body = roll-Statement (Statement-F.While (at 1) test body)
 
 abbrev pub for : Assignment → Expression → Assignment → Statement → Statement
 for first test step body = roll-Statement (Statement-F.For (at 1) (record { start = Some (Assign first); test = test; step = Some step }) body)
+
+-- a `for` that begins with a local
+abbrev pub for_local : TypeName → String → Flow → Expression → Assignment → Statement → Statement
+for_local t x value test step body =
+    roll-Statement (Statement-F.For (at 1) (record { start = Some (Declare (record { at = at 1; type_name = t; declarators = Initialized (at 1) (name x) value ∷ [] })); test = test; step = Some step }) body)
 
 abbrev pub print : List Expression → Statement
 print values = roll-Statement (Statement-F.Print (at 1) values)

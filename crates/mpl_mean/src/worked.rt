@@ -12,6 +12,7 @@ ghost use Rattle.mpl_mean.specs.BodyMeaning.{yield_of};
 ghost use Rattle.mpl_mean.specs.CallPrograms.{fib_of_ten, forced_division, goes_on_after_its_result, leftmost_trap_wins, one_result_twice, sum_of_squares, unforced_division};
 ghost use Rattle.mpl_mean.specs.DirectRun.{direct_run, main_start};
 ghost use Rattle.mpl_mean.specs.LoopPrograms.{endless, products_of_input};
+ghost use Rattle.mpl_mean.specs.OrderPrograms.{function_in_function, inner_names, left_decides, parentheses_force, quotient_to_zero, receiver_first, right_side_first, variable_before_index};
 ghost use Rattle.mpl_mean.specs.ReplyPrograms.{gets_and_puts, passes_it_back};
 ghost use Rattle.mpl_mean.specs.TrapPrograms.{asks_for_input, function_without_result, index_outside, no_object, no_result, second_result, too_large};
 ghost use Rattle.mpl_mean.specs.WorkedYields.{gives, member_start, on_first, regular_start, trapped, traps, yields, yields_with};
@@ -40,6 +41,18 @@ pub fn traps_have_their_lines()
     ensures no_reply { yield_of no_result (regular_start 0 (pos 0 ∷ [])) empty 1 ≡ gives (trapped NoReply 5) [] Done }
     ensures no_reply_forced { direct_run no_result [] 3 ≡ yields [] 3 (traps NoReply 5) }
     ensures no_reply_of_a_function { direct_run function_without_result [] 2 ≡ yields [] 2 (traps NoReply 2) }
+{}
+
+/// What comes first, what is forced, and which variable a name is.
+pub fn parts_have_their_order()
+    ensures parentheses_force { direct_run parentheses_force [] 3 ≡ yields [] 3 (traps DivZero 2) }
+    ensures right_side_first { direct_run right_side_first [] 1 ≡ yields [] 1 (traps DivZero 3) }
+    ensures variable_before_index { direct_run variable_before_index [] 3 ≡ yields [] 3 (traps Index 3) }
+    ensures receiver_first { direct_run receiver_first [] 1 ≡ yields [] 1 (traps Unbound 4) }
+    ensures left_decides { direct_run left_decides [] 1 ≡ yields ("false true" ∷ []) 1 Done }
+    ensures inner_names { direct_run inner_names [] 3 ≡ yields ("1" ∷ []) 3 Done }
+    ensures function_in_function { direct_run function_in_function [] 3 ≡ yields ("8" ∷ []) 3 Done }
+    ensures quotient_to_zero { direct_run quotient_to_zero [] 1 ≡ yields ("-3 -1" ∷ []) 1 Done }
 {}
 
 /// Structs, arrays, input and loops.
