@@ -1,9 +1,6 @@
 -- Programs that tell in which order things are evaluated, and what is forced, each below its source.
 use Rattle.std.specs.Prelude.{[], ◌∷◌}
-use Rattle.mpl_ast.specs.declared.class.Item.{Item}
 use Rattle.mpl_ast.specs.declared.expression.Primary.{Primary}
-use Rattle.mpl_ast.specs.declared.expression.Sum.{Sum}
-use Rattle.mpl_ast.specs.declared.expression.Expression.{Expression}
 use Rattle.mpl_ast.specs.declared.program.Program.{Program}
 use Rattle.mpl_mean.specs.ExpressionTrees.{number, true, false, variable, whole, place, element, field_element, call_plain, parenthesized, term, over, modulo, sum_of, sum, plus, minus, summed, multiplied, only, less, and_equal, or_equal, flow, call, result}
 use Rattle.mpl_mean.specs.ProgramTrees.{int, named, declare, declare_array, declare_as, assignment, assign, call_alone, block, for_local, print, rtf, give_back, formal, returning, void, member, array_field, struct, regular_class, persistent_class, function, main, program}
@@ -16,11 +13,11 @@ abbrev pub parentheses_force : Program
 parentheses_force = program (
     regular_class "calc" (member (returning int) "div" (formal int "x" ∷ formal int "y" ∷ []) 2 (rtf 2 (flow (multiplied (over 2 (term (variable "x")) (variable "y")))) ∷ []) ∷ [])
     ∷ main 4 (
-      declare (named "calc") "w"
-      ∷ declare_as int "a" (result (call 4 "w" "div" (flow (only (number 1)) ∷ flow (only (number 0)) ∷ [])))
-      ∷ declare_as int "b" (flow (only (parenthesized (only (variable "a")))))
-      ∷ print (only (number 1) ∷ [])
-      ∷ [])
+    declare (named "calc") "w"
+    ∷ declare_as int "a" (result (call 4 "w" "div" (flow (only (number 1)) ∷ flow (only (number 0)) ∷ [])))
+    ∷ declare_as int "b" (flow (only (parenthesized (only (variable "a")))))
+    ∷ print (only (number 1) ∷ [])
+    ∷ [])
     ∷ [])
 
 -- 1  int main() {
@@ -30,9 +27,9 @@ parentheses_force = program (
 abbrev pub right_side_first : Program
 right_side_first = program (
     main 4 (
-      declare_array int "a" 2
-      ∷ assign (element 3 "a" (only (number 5))) (flow (multiplied (over 3 (term (number 1)) (number 0))))
-      ∷ [])
+    declare_array int "a" 2
+    ∷ assign (element 3 "a" (only (number 5))) (flow (multiplied (over 3 (term (number 1)) (number 0))))
+    ∷ [])
     ∷ [])
 
 -- 1  struct vec { int v[2]; };
@@ -48,17 +45,17 @@ abbrev pub variable_before_index : Program
 variable_before_index = program (
     struct "vec" (array_field int "v" 2 ∷ [])
     ∷ regular_class "op" (
-      member (returning (named "vec")) "unit" (formal int "i" ∷ []) 3 (
-        declare (named "vec") "s"
-        ∷ assign (field_element 3 "s" "v" (only (variable "i"))) (flow (only (number 1)))
-        ∷ rtf 3 (flow (only (variable "s")))
-        ∷ [])
-      ∷ [])
+    member (returning (named "vec")) "unit" (formal int "i" ∷ []) 3 (
+    declare (named "vec") "s"
+    ∷ assign (field_element 3 "s" "v" (only (variable "i"))) (flow (only (number 1)))
+    ∷ rtf 3 (flow (only (variable "s")))
+    ∷ [])
+    ∷ [])
     ∷ main 9 (
-      declare (named "op") "w"
-      ∷ declare_as (named "vec") "s" (result (call 7 "w" "unit" (flow (only (number 2)) ∷ [])))
-      ∷ print (only (place (field_element 8 "s" "v" (multiplied (over 8 (term (number 1)) (number 0))))) ∷ [])
-      ∷ [])
+    declare (named "op") "w"
+    ∷ declare_as (named "vec") "s" (result (call 7 "w" "unit" (flow (only (number 2)) ∷ [])))
+    ∷ print (only (place (field_element 8 "s" "v" (multiplied (over 8 (term (number 1)) (number 0))))) ∷ [])
+    ∷ [])
     ∷ [])
 
 -- 1  persistent mentat class buffer {
@@ -69,20 +66,20 @@ abbrev pub receiver_first : Program
 receiver_first = program (
     persistent_class "buffer" (member void "put" (formal int "x" ∷ []) 2 [] ∷ [])
     ∷ main 4 (
-      declare (named "buffer") "b"
-      ∷ call_alone (call 4 "b" "put" (flow (multiplied (over 4 (term (number 1)) (number 0))) ∷ []))
-      ∷ [])
+    declare (named "buffer") "b"
+    ∷ call_alone (call 4 "b" "put" (flow (multiplied (over 4 (term (number 1)) (number 0))) ∷ []))
+    ∷ [])
     ∷ [])
 
 -- 1  int main() { print(false && 1 / 0 == 0, true || 1 / 0 == 0); }
 abbrev pub left_decides : Program
 left_decides = program (
     main 1 (
-      print (
-        and_equal 1 false (sum_of (over 1 (term (number 1)) (number 0))) (sum (number 0))
-        ∷ or_equal 1 true (sum_of (over 1 (term (number 1)) (number 0))) (sum (number 0))
-        ∷ [])
-      ∷ [])
+    print (
+    and_equal 1 false (sum_of (over 1 (term (number 1)) (number 0))) (sum (number 0))
+    ∷ or_equal 1 true (sum_of (over 1 (term (number 1)) (number 0))) (sum (number 0))
+    ∷ [])
+    ∷ [])
     ∷ [])
 
 -- 1  int main() {
@@ -94,13 +91,13 @@ left_decides = program (
 abbrev pub inner_names : Program
 inner_names = program (
     main 6 (
-      declare_as int "x" (flow (only (number 1)))
-      ∷ block (declare_as int "x" (flow (only (number 2))) ∷ assign (whole "x") (flow (only (number 3))) ∷ [])
-      ∷ for_local int "x" (flow (only (number 5))) (less 4 (sum (variable "x")) (sum (number 6)))
-        (assignment (whole "x") (flow (summed (plus 4 (sum (variable "x")) (term (number 1))))))
-        (block [])
-      ∷ print (only (variable "x") ∷ [])
-      ∷ [])
+    declare_as int "x" (flow (only (number 1)))
+    ∷ block (declare_as int "x" (flow (only (number 2))) ∷ assign (whole "x") (flow (only (number 3))) ∷ [])
+    ∷ for_local int "x" (flow (only (number 5))) (less 4 (sum (variable "x")) (sum (number 6)))
+    (assignment (whole "x") (flow (summed (plus 4 (sum (variable "x")) (term (number 1))))))
+    (block [])
+    ∷ print (only (variable "x") ∷ [])
+    ∷ [])
     ∷ [])
 
 -- 1  int twice(int x) { return x + x; }
@@ -109,10 +106,10 @@ abbrev pub function_in_function : Program
 function_in_function = program (
     function int "twice" (formal int "x" ∷ []) 1 (give_back (summed (plus 1 (sum (variable "x")) (term (variable "x")))) ∷ [])
     ∷ main 2 (
-      print (only (call_plain "twice" (only (call_plain "twice" (only (number 2) ∷ [])) ∷ [])) ∷ [])
-      ∷ give_back (only (number 0))
-      ∷ print (only (number 1) ∷ [])
-      ∷ [])
+    print (only (call_plain "twice" (only (call_plain "twice" (only (number 2) ∷ [])) ∷ [])) ∷ [])
+    ∷ give_back (only (number 0))
+    ∷ print (only (number 1) ∷ [])
+    ∷ [])
     ∷ [])
 
 -- 1  int main() { print((0 - 7) / 2, (0 - 7) % 2); }

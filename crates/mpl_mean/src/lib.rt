@@ -6,5 +6,6 @@ mod worked;
 
 pub use laws::{more_replies_only_add, more_turns_change_nothing, tokens_are_few};
 pub use worked::{
-    calls_have_their_yields, loops_have_their_turns, parts_have_their_order, replies_are_awaited, traps_have_their_lines,
+    calls_have_their_yields, loops_have_their_turns, parts_have_their_order, replies_are_awaited,
+    traps_have_their_lines,
 };
