@@ -1,6 +1,6 @@
 -- Programs with structs, input and loops, each below its source.
 use Prim.Native.String.{String}
-use Rattle.std.specs.Prelude.{ℕ, [], ◌∷◌}
+use Rattle.std.specs.Prelude.{ℕ, List, [], ◌∷◌}
 use Rattle.mpl_ast.specs.declared.expression.Expression.{Expression}
 use Rattle.mpl_ast.specs.declared.expression.Place.{Place}
 use Rattle.mpl_ast.specs.declared.expression.Primary.{Primary}
@@ -50,44 +50,43 @@ at_i line x = place (element_at_i line x)
 abbrev pub products_of_input : Program
 products_of_input = program (
     struct "vec" (array_field int "v" 4 ∷ [])
-    ∷ regular_class "op" (
-    member (returning int) "dot" (formal (named "vec") "a" ∷ formal (named "vec") "b" ∷ []) 8 (
-    declare_as int "s" zero
-    ∷ declare_as int "i" zero
-    ∷ for (assignment (whole "i") zero) below_four one_more (block (
-    assign (whole "s") (flow (summed (plus 6 (sum (variable "s")) (times 6 (term (at_i 6 "a")) (at_i 6 "b")))))
-    ∷ []))
-    ∷ rtf 7 (flow (only (variable "s")))
-    ∷ [])
-    ∷ [])
-    ∷ main 17 (
-    declare (named "op") "w"
-    ∷ declare (named "vec") "a"
-    ∷ declare (named "vec") "b"
-    ∷ declare_as int "i" zero
-    ∷ while below_four (block (assign (element_at_i 12 "a") (flow (only (input 12))) ∷ assign_one_more ∷ []))
-    ∷ for (assignment (whole "i") zero) below_four one_more (block (assign (element_at_i 13 "b") (flow (only (input 13))) ∷ []))
-    ∷ declare_as int "d" (result (call 14 "w" "dot" (flow (only (variable "a")) ∷ flow (only (variable "b")) ∷ [])))
-    ∷ declare_as int "e" (result (call 15 "w" "dot" (flow (only (variable "b")) ∷ flow (only (variable "b")) ∷ [])))
-    ∷ print (only (variable "d") ∷ only (variable "e") ∷ [])
-    ∷ [])
-    ∷ [])
+    ∷ regular_class "op" (member (returning int) "dot" (formal (named "vec") "a" ∷ formal (named "vec") "b" ∷ []) 8 dot ∷ [])
+    ∷ main 17 statements
+    ∷ []) where
+      dot : List Statement
+      dot =
+          declare_as int "s" zero
+          ∷ declare_as int "i" zero
+          ∷ for (assignment (whole "i") zero) below_four one_more
+          (block (assign (whole "s") (flow (summed (plus 6 (sum (variable "s")) (times 6 (term (at_i 6 "a")) (at_i 6 "b"))))) ∷ []))
+          ∷ rtf 7 (flow (only (variable "s")))
+          ∷ []
+
+      statements : List Statement
+      statements =
+          declare (named "op") "w"
+          ∷ declare (named "vec") "a"
+          ∷ declare (named "vec") "b"
+          ∷ declare_as int "i" zero
+          ∷ while below_four (block (assign (element_at_i 12 "a") (flow (only (input 12))) ∷ assign_one_more ∷ []))
+          ∷ for (assignment (whole "i") zero) below_four one_more (block (assign (element_at_i 13 "b") (flow (only (input 13))) ∷ []))
+          ∷ declare_as int "d" (result (call 14 "w" "dot" (flow (only (variable "a")) ∷ flow (only (variable "b")) ∷ [])))
+          ∷ declare_as int "e" (result (call 15 "w" "dot" (flow (only (variable "b")) ∷ flow (only (variable "b")) ∷ [])))
+          ∷ print (only (variable "d") ∷ only (variable "e") ∷ [])
+          ∷ []
 
 -- 1  regular mentat class calc {
 -- 2    int spin(int x) { while (true) { x = x; } rtf(x); }
 -- 3  };
 -- 4  int main() { calc w; int a = w.spin(1); print(1); }
 abbrev pub endless : Program
-endless = program (
-    regular_class "calc" (
-    member (returning int) "spin" (formal int "x" ∷ []) 2 (
-    while (only true) (block (assign (whole "x") (flow (only (variable "x"))) ∷ []))
-    ∷ rtf 2 (flow (only (variable "x")))
-    ∷ [])
-    ∷ [])
-    ∷ main 4 (
-    declare (named "calc") "w"
-    ∷ declare_as int "a" (result (call 4 "w" "spin" (flow (only (number 1)) ∷ [])))
-    ∷ print (only (number 1) ∷ [])
-    ∷ [])
-    ∷ [])
+endless = program (regular_class "calc" (member (returning int) "spin" (formal int "x" ∷ []) 2 spin ∷ []) ∷ main 4 statements ∷ []) where
+  spin : List Statement
+  spin = while (only true) (block (assign (whole "x") (flow (only (variable "x"))) ∷ [])) ∷ rtf 2 (flow (only (variable "x"))) ∷ []
+
+  statements : List Statement
+  statements =
+      declare (named "calc") "w"
+      ∷ declare_as int "a" (result (call 4 "w" "spin" (flow (only (number 1)) ∷ [])))
+      ∷ print (only (number 1) ∷ [])
+      ∷ []
