@@ -84,13 +84,15 @@ fn finish<K: Sink>(done: &Yield, out: &mut K) -> Ending
     ensures turns { result.turns ≡ done.now.turns }
     ensures unwritten { LeavesOutput result.status → out.new ≡ out.old }
 {
-    let status = match done.end {
-        BodyEnd::Spent => Status::Spent,
-        end => written(end, done.lines.as_slice(), out),
-    };
-    Ending {
-        status,
-        turns: done.turns,
+    match done.end {
+        BodyEnd::Spent => Ending {
+            status: Status::Spent,
+            turns: done.turns,
+        },
+        end => Ending {
+            status: written(end, done.lines.as_slice(), out),
+            turns: done.turns,
+        },
     }
 }
 

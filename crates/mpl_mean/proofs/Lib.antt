@@ -11,6 +11,10 @@ mod KeptStatements
 mod Later
 mod MoreReplies
 mod MoreTurns
+mod OpenTrees
+mod OpenedBodies
+mod OpenedExpressions
+mod OpenedStatements
 mod ResultsAtEnd
 mod Simulation
 mod TokenCount

@@ -32,3 +32,11 @@ pub mod ExpressionRules
 pub mod CallRules
 pub mod StatementRules
 pub mod Rules
+pub mod ExpressionTrees
+pub mod ProgramTrees
+pub mod WorkedYields
+pub mod CallPrograms
+pub mod TrapPrograms
+pub mod LoopPrograms
+pub mod OrderPrograms
+pub mod ReplyPrograms

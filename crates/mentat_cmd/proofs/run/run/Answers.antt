@@ -21,5 +21,5 @@ pub returns-in-Ok-walk : goal.returns-in-Ok-walk
 returns-in-Ok-walk c =
     let spelled : Spells c.args.source.now c.in-Ok-parse.program = search rules in
     let yield : c.in-Ok-walk.done ≡ direct_run c.in-Ok-parse.program [] 1000000 =
-    runs_directly c.in-Ok-parse.program c.in-Ok-walk.done c.start_of_main-start.result c.new-replies.result 1000000 c.in-Ok-walk.ensures c.start_of_main-start.ensures c.new-replies.ensures in
+    runs_directly c.in-Ok-parse.program c.in-Ok-walk.done c.start_of_main-start.result c.new-replies.result 1000000 c.in-Ok-walk.ensures.meaning c.start_of_main-start.ensures c.new-replies.ensures in
     record { program = c.in-Ok-parse.program; source_is = spelled; yield = yield }
