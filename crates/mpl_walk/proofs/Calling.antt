@@ -150,14 +150,6 @@ begins inner m words vs statements budget store turns body formals =
     ∙ ap (λ all. runs_as inner m store (variables_held vs) all inner.turns) body
     ∙ ap (λ n. runs_as inner m store (variables_held vs) statements n) turns
 
-pub body_spent : (inner : Context) (m : Member) (words : List (List ℤ)) (vs : List Variable) (budget : ℕ) (store : Store)
-    → inner.turns ≡ budget → formals_holding m.formals words ≡ variables_held vs
-    → spend budget (inside vs store.turns) ≡ Ends end.Spent (with_turns (inside vs store.turns) (budget + 1))
-    → regular_body inner m words store ≡ Ends end.Spent (with_turns store (budget + 1))
-body_spent inner m words vs budget store turns formals spends =
-    begins inner m words vs m.body.statements budget store turns refl formals
-    ∙ ap (λ outcome. ended m store (and_then outcome (λ _. in_turn (map (λ s. does s inner) m.body.statements)))) spends
-
 pub body_gives : (inner : Context) (m : Member) (words : List (List ℤ)) (vs : List Variable) (at : At) (flow : Flow) (budget after : ℕ) (store : Store) (r : Result Held Trap)
     → inner.turns ≡ budget → m.body.statements ≡ Rtf at flow ∷ [] → formals_holding m.formals words ≡ variables_held vs
     → spend budget (inside vs store.turns) ≡ Goes tt (inside vs after)
@@ -173,7 +165,3 @@ pub one_operand : (xs : List Statement) (x : Statement) → is_one_result xs ≡
 one_operand [] x one found = cc
 one_operand (a ∷ []) x one found = (ap (λ (y : Statement). y ∷ []) (sym found), ap (λ (y : Statement). first.gives_result y) found ∙ one)
 one_operand (a ∷ b ∷ others) x one found = cc
-
-pub one_is_there : (xs : List Statement) → is_one_result xs ≡ true → 0 < length xs
-one_is_there [] one = cc
-one_is_there (a ∷ others) one = omega arith

@@ -44,10 +44,6 @@ one_declarator type [] x one found = cc
 one_declarator type (a ∷ []) x one found = (ap (λ (y : Declarator). y ∷ []) (sym found), ap (λ (y : Declarator). is_first_declarator type y) found ∙ one)
 one_declarator type (a ∷ b ∷ others) x one found = cc
 
-pub one_declared : (type : TypeName) (xs : List Declarator) → is_first_local type xs ≡ true → 0 < length xs
-one_declared type [] one = cc
-one_declared type (a ∷ others) one = omega arith
-
 pub without_dimension : (type : TypeName) (at : At) (name : Name) (dimension : Option Dimension) → is_first_declarator type (Plain at name dimension) ≡ true
     → dimension ≡ None
 without_dimension type at name None built = refl

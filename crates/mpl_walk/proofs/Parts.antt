@@ -74,11 +74,5 @@ one_unary at inner = search (rules, term.the_lemmas)
 pub one_primary : (at : At) (inner : Primary) → unary_value (unary.OnePrimary at inner) ≡ primary_value inner
 one_primary at inner = search (rules, unary.the_lemmas)
 
-pub one_number : (at : At) (z : ℤ) → primary_value (primary.Number at z) ≡ (λ c. give (int_value z))
-one_number at z = search (rules, primary.the_lemmas)
-
 pub one_place : (at : At) (inner : Place) → primary_value (primary.Read at inner) ≡ place_value inner
 one_place at inner = search (rules, primary.the_lemmas)
-
-pub one_target : (at : At) (target : Target) → place_value (place.Whole at target) ≡ (λ c. read c target)
-one_target at target = search (rules, place.the_lemmas)

@@ -24,32 +24,6 @@ use Rattle.mpl_walk.proofs.Calling.{on_name}
 use Rattle.mpl_walk.specs.Evaluated.{evaluated, passed}
 use Rattle.mpl_walk.specs.Held.{Stands, variable_held, variables_held}
 
-pub passes_held : (vs : List Variable) (e : Expression) (v : Variable) (c : Context) (s : Store) → Stands vs c s
-    → whole_variable (whole_name e) (variables_held vs) ≡ Some (variable_held v) → pass c e s ≡ passed (Ok v.holds) s
-passes_held vs e v c s stands found =
-    ap (λ all. held_or (whole_variable (whole_name e) all) (value_of e c) s) stands.variables ∙ ap (λ one. held_or one (value_of e c) s) found
-
-pub passes_word : (vs : List Variable) (e : Expression) (word : Option ℤ) (c : Context) (s : Store) → Stands vs c s
-    → whole_variable (whole_name e) (variables_held vs) ≡ None → value_of e c s ≡ evaluated (Ok word) s → pass c e s ≡ passed (Ok (held.Know word)) s
-passes_word vs e word c s stands missing gives =
-    ap (λ all. held_or (whole_variable (whole_name e) all) (value_of e c) s) stands.variables
-    ∙ ap (λ one. held_or one (value_of e c) s) missing
-    ∙ and_gives gives where
-      and_gives : value_of e c s ≡ evaluated (Ok word) s → held_or None (value_of e c) s ≡ passed (Ok (held.Know word)) s
-      and_gives g = simp g
-
-pub passes_trap : (vs : List Variable) (e : Expression) (trap : Trap) (c : Context) (s : Store) → Stands vs c s
-    → whole_variable (whole_name e) (variables_held vs) ≡ None → value_of e c s ≡ evaluated (Err trap) s → pass c e s ≡ passed (Err trap) s
-passes_trap vs e trap c s stands missing gives =
-    ap (λ all. held_or (whole_variable (whole_name e) all) (value_of e c) s) stands.variables
-    ∙ ap (λ one. held_or one (value_of e c) s) missing
-    ∙ and_gives gives where
-      and_gives : value_of e c s ≡ evaluated (Err trap) s → held_or None (value_of e c) s ≡ passed (Err trap) s
-      and_gives g = simp g
-
-pub flow_of_expression : (at : At) (e : Expression) (c : Context) → passes (flow.OfExpression at e) c ≡ pass c e
-flow_of_expression at e c = search (rules, flow.the_lemmas)
-
 pub flow_of_call : (at : At) (k : Call) (c : Context) → passes (flow.OfCall at k) c ≡ call_value k c
 flow_of_call at k c = search (rules, flow.the_lemmas)
 
