@@ -46,9 +46,10 @@ takes_class name at line kind class items part same = λ number id others.
 
 pub skips_class : (name : List ℕ) (at : At) (line : ℕ) (kind : Kind) (class : Name) (items : List Item)
     → bytes_eq class.text name ≡ false → SkipsClass name (declaration.Class at line kind class items)
-skips_class name at line kind class items other = λ number id others.
-    ((number + 1, id + length (members_from id items)),
-    ap (λ b. cond b (Some (class_made number id kind class items)) (class_named name (classes_from (number + 1) (id + length (members_from id items)) others))) other)
+skips_class name at line kind class items other = λ number id others. (
+  (number + 1, id + length (members_from id items)),
+  ap (λ b. cond b (Some (class_made number id kind class items)) (class_named name (classes_from (number + 1) (id + length (members_from id items)) others))) other,
+)
 
 pub skips_function : (name : List ℕ) (at : At) (result : TypeName) (function : Name) (formals : Option Formals) (body : Block)
     → SkipsClass name (declaration.Function at result function formals body)

@@ -39,7 +39,7 @@ call_on_variable at target member flows c =
     let layer : call_value (call.OnTarget at target member flows) c ≡ call_on_target c at.line target member.text (at_context c (map passes flows)) = search (rules, call.the_lemmas) in
     layer ∙ ap (λ (all : List (Doing Arg)). call_on_target c at.line target member.text all) (passed_at c flows)
 
-all_built : (flows : List Flow) → list_all (λ b. b) (map is_first_flow flows) ≡ list_all is_first_flow flows
+pub all_built : (flows : List Flow) → list_all (λ b. b) (map is_first_flow flows) ≡ list_all is_first_flow flows
 all_built [] = refl
 all_built (f ∷ flows) = ap (λ b. is_first_flow f && b) (all_built flows)
 

@@ -34,11 +34,11 @@ returns-in-Some-clause-gives c = λ context s fits stands.
     let name = c.as_slice.result.now in
     let got = c.in-Some.ensures.receives context t (stands_with _ context s c.args.turns.now stands) fits.declarations line flows in
     let calls =
-        call_named c.args.node.now k.field-0 k.target c.in-Variable.field-0 c.in-Variable.name k.member k.arguments context t k.is c.in-Variable.is
-        ∙ ap (λ n. on_name context line n k.member.text flows (variable_named n t.variables) t) (sym c.as_slice.ensures)
-        ∙ ap (λ m. on_name context line name m flows (variable_named name t.variables) t) (sym c.as_slice-in-Variable.ensures)
-        ∙ ap (λ (doing : Doing Arg). doing t) got.1
-        ∙ ap (λ all. regular_call context got.0 (map (λ f. passes f context) all) t) (sym c.as_slice-in-Some.ensures) in
+    call_named c.args.node.now k.field-0 k.target c.in-Variable.field-0 c.in-Variable.name k.member k.arguments context t k.is c.in-Variable.is
+    ∙ ap (λ n. on_name context line n k.member.text flows (variable_named n t.variables) t) (sym c.as_slice.ensures)
+    ∙ ap (λ m. on_name context line name m flows (variable_named name t.variables) t) (sym c.as_slice-in-Variable.ensures)
+    ∙ ap (λ (doing : Doing Arg). doing t) got.1
+    ∙ ap (λ all. regular_call context got.0 (map (λ f. passes f context) all) t) (sym c.as_slice-in-Some.ensures) in
     subst (λ outcome. Comes budget arg_held outcome (with_turns s c.member_call.new.turns) c.member_call.result) (sym calls)
     (c.member_call.ensures.gives context s got.0 fits stands got.2)
 

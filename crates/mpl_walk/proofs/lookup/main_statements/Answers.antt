@@ -8,7 +8,7 @@ use Rattle.mpl_walk.proofs.Mains.{all_parts, is_behind, is_last, no_struct}
 use Rattle.mpl_walk.proofs.lookup.main_statements.Goals as goal
 
 pub loop-declaration-init : goal.loop-declaration-init
-loop-declaration-init c = record { built = ap are_first c.as_slice-declaration-items.ensures ∙ c.requires; main = refl; }
+loop-declaration-init c = record { built = ap are_first c.as_slice-declaration-items.ensures ∙ c.requires; main = refl }
 
 pub loop-declaration-preserved : goal.loop-declaration-preserved
 loop-declaration-preserved c =

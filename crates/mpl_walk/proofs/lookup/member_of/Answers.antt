@@ -8,7 +8,7 @@ use Rattle.mpl_walk.proofs.Lists.{next_left, none_left}
 use Rattle.mpl_walk.proofs.lookup.member_of.Goals as goal
 
 pub loop-item-init : goal.loop-item-init
-loop-item-init c = record { built = c.requires; found = λ id. (id, refl); }
+loop-item-init c = record { built = c.requires; found = λ id. (id, refl) }
 
 pub member_if_named-requires : goal.member_if_named-requires
 member_if_named-requires c =
