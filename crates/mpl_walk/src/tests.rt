@@ -1,7 +1,7 @@
 ghost use Rattle.std.specs.Prelude.{◌≡◌, ◌≤◌, ◌∷◌, ◌++◌, [], true, None, IfOk};
 ghost use Rattle.std.specs.List.{list_all};
 ghost use Rattle.mpl_ast.specs.declared.flow.Flow.{out-Flow};
-ghost use Rattle.mpl_mean.specs.FirstForm.{is_first_form, is_first_declarator, is_first_expression, is_first_flow, is_first_item, is_first_statement, is_call, is_class, is_int, is_main, is_first_sum, is_first_term, is_first_unary};
+ghost use Rattle.mpl_mean.specs.FirstForm.{is_first_form, is_first_declarator, is_first_expression, is_first_flow, is_first_item, is_first_statement, is_call, is_class, is_int, is_main, is_one_result, is_first_sum, is_first_term, is_first_unary};
 ghost use Rattle.mpl_walk.specs.Found.{is_int_formal};
 
 use crate::walk;
@@ -29,13 +29,10 @@ fn at(line: u32) -> At {
 
 // ---- expressions
 
-fn number(value: i64) -> Term
-    ensures { is_first_term result ≡ true }
+fn digit(value: i64) -> Result<Unary, NoMemory>
+    ensures { IfOk result (λ u. is_first_unary u ≡ true) }
 {
-    Term::OneUnary(
-        at(1),
-        Unary::OnePrimary(at(1), Primary::Number(at(1), value)),
-    )
+    Ok(Unary::OnePrimary(at(1), Primary::Number(at(1), value)))
 }
 
 fn name(alloc: Global, text: &[u8]) -> Result<Name, NoMemory> {
@@ -53,43 +50,61 @@ fn read(alloc: Global, text: &[u8]) -> Result<Unary, NoMemory>
     Ok(Unary::OnePrimary(at(1), Primary::Read(at(1), place)))
 }
 
-fn variable(alloc: Global, text: &[u8]) -> Result<Term, NoMemory>
+fn term(unary: Result<Unary, NoMemory>) -> Result<Term, NoMemory>
+    requires { IfOk unary (λ u. is_first_unary u ≡ true) }
     ensures { IfOk result (λ t. is_first_term t ≡ true) }
 {
-    Ok(Term::OneUnary(at(1), read(alloc, text)?))
+    Ok(Term::OneUnary(at(1), unary?))
 }
 
 /// A product whose operator stands on this line.
-fn times(alloc: Global, left: Term, line: u32, right: Unary) -> Result<Term, NoMemory>
-    requires left { is_first_term left ≡ true }
-    requires right { is_first_unary right ≡ true }
+fn times(
+    alloc: Global,
+    left: Result<Term, NoMemory>,
+    line: u32,
+    right: Result<Unary, NoMemory>,
+) -> Result<Term, NoMemory>
+    requires left { IfOk left (λ t. is_first_term t ≡ true) }
+    requires right { IfOk right (λ u. is_first_unary u ≡ true) }
     ensures { IfOk result (λ t. is_first_term t ≡ true) }
 {
-    let left = Boxed::new(alloc, left)?;
+    let right = right?;
+    let left = Boxed::new(alloc, left?)?;
     Ok(Term::Multiply(at(1), line, left, TermOperator::Times, right))
 }
 
-fn product(alloc: Global, left: i64, line: u32, right: i64) -> Result<Term, NoMemory>
-    ensures { IfOk result (λ t. is_first_term t ≡ true) }
-{
-    let right = Unary::OnePrimary(at(1), Primary::Number(at(1), right));
-    times(alloc, number(left), line, right)
-}
-
-fn one(term: Term) -> Sum
-    requires { is_first_term term ≡ true }
-    ensures { is_first_sum result ≡ true }
-{
-    Sum::OneTerm(at(1), term)
-}
-
-fn add(alloc: Global, left: Sum, operator: SumOperator, right: Term) -> Result<Sum, NoMemory>
-    requires left { is_first_sum left ≡ true }
-    requires right { is_first_term right ≡ true }
+fn sum(term: Result<Term, NoMemory>) -> Result<Sum, NoMemory>
+    requires { IfOk term (λ t. is_first_term t ≡ true) }
     ensures { IfOk result (λ s. is_first_sum s ≡ true) }
 {
-    let left = Boxed::new(alloc, left)?;
+    Ok(Sum::OneTerm(at(1), term?))
+}
+
+fn add(
+    alloc: Global,
+    left: Result<Sum, NoMemory>,
+    operator: SumOperator,
+    right: Result<Term, NoMemory>,
+) -> Result<Sum, NoMemory>
+    requires left { IfOk left (λ s. is_first_sum s ≡ true) }
+    requires right { IfOk right (λ t. is_first_term t ≡ true) }
+    ensures { IfOk result (λ s. is_first_sum s ≡ true) }
+{
+    let right = right?;
+    let left = Boxed::new(alloc, left?)?;
     Ok(Sum::Add(at(1), 1, left, operator, right))
+}
+
+fn number(value: i64) -> Result<Sum, NoMemory>
+    ensures { IfOk result (λ s. is_first_sum s ≡ true) }
+{
+    sum(term(digit(value)))
+}
+
+fn variable(alloc: Global, text: &[u8]) -> Result<Sum, NoMemory>
+    ensures { IfOk result (λ s. is_first_sum s ≡ true) }
+{
+    sum(term(read(alloc, text)))
 }
 
 fn expression(sum: Sum) -> Expression
@@ -101,11 +116,11 @@ fn expression(sum: Sum) -> Expression
     Expression::OneConjunction(at(1), Conjunction::OneEquality(at(1), equality))
 }
 
-fn flow(sum: Sum) -> Flow
-    requires { is_first_sum sum ≡ true }
-    ensures { is_first_flow result ≡ true }
+fn flow(value: Result<Sum, NoMemory>) -> Result<Flow, NoMemory>
+    requires { IfOk value (λ s. is_first_sum s ≡ true) }
+    ensures { IfOk result (λ f. is_first_flow f ≡ true) }
 {
-    Flow::OfExpression(at(1), expression(sum))
+    Ok(Flow::OfExpression(at(1), expression(value?)))
 }
 
 // ---- lists
@@ -126,13 +141,26 @@ fn with<T: Drop>(mut items: Items<T>, item: T) -> Result<Items<T>, NoMemory>
     Ok(items)
 }
 
-/// The statements, and one more behind them.
-fn then(statements: Items<Statement>, statement: Statement) -> Result<Items<Statement>, NoMemory>
-    requires all { list_all is_first_statement statements ≡ true }
-    requires one { is_first_statement statement ≡ true }
+fn first(
+    alloc: Global,
+    statement: Result<Statement, NoMemory>,
+) -> Result<Items<Statement>, NoMemory>
+    requires { IfOk statement (λ s. is_first_statement s ≡ true) }
     ensures { IfOk result (λ xs. list_all is_first_statement xs ≡ true) }
 {
-    with(statements, statement)
+    single(alloc, statement?)
+}
+
+/// The statements, and one more behind them.
+fn then(
+    statements: Result<Items<Statement>, NoMemory>,
+    statement: Result<Statement, NoMemory>,
+) -> Result<Items<Statement>, NoMemory>
+    requires all { IfOk statements (λ xs. list_all is_first_statement xs ≡ true) }
+    requires one { IfOk statement (λ s. is_first_statement s ≡ true) }
+    ensures { IfOk result (λ xs. list_all is_first_statement xs ≡ true) }
+{
+    with(statements?, statement?)
 }
 
 // ---- statements
@@ -147,20 +175,25 @@ fn block(statements: Items<Statement>) -> Block
     }
 }
 
-fn print_one(alloc: Global, value: Sum) -> Result<Statement, NoMemory>
-    requires { is_first_sum value ≡ true }
+fn print_one(alloc: Global, value: Result<Sum, NoMemory>) -> Result<Statement, NoMemory>
+    requires { IfOk value (λ s. is_first_sum s ≡ true) }
     ensures { IfOk result (λ s. is_first_statement s ≡ true) }
 {
-    let arguments = single(alloc, expression(value))?;
+    let arguments = single(alloc, expression(value?))?;
     Ok(Statement::Print(at(1), arguments))
 }
 
-fn print_two(alloc: Global, first: Sum, second: Sum) -> Result<Statement, NoMemory>
-    requires first { is_first_sum first ≡ true }
-    requires second { is_first_sum second ≡ true }
+fn print_two(
+    alloc: Global,
+    first: Result<Sum, NoMemory>,
+    second: Result<Sum, NoMemory>,
+) -> Result<Statement, NoMemory>
+    requires first { IfOk first (λ s. is_first_sum s ≡ true) }
+    requires second { IfOk second (λ s. is_first_sum s ≡ true) }
     ensures { IfOk result (λ s. is_first_statement s ≡ true) }
 {
-    let arguments = with(single(alloc, expression(first))?, expression(second))?;
+    let arguments = single(alloc, expression(first?))?;
+    let arguments = with(arguments, expression(second?))?;
     Ok(Statement::Print(at(1), arguments))
 }
 
@@ -189,22 +222,41 @@ fn receiver(alloc: Global) -> Result<Statement, NoMemory>
     declare(alloc, class, variable)
 }
 
+fn one_argument(alloc: Global, value: i64) -> Result<Items<Flow>, NoMemory>
+    ensures { IfOk result (λ xs. list_all is_first_flow xs ≡ true) }
+{
+    single(alloc, flow(number(value))?)
+}
+
+fn two_arguments(alloc: Global, first: i64, second: i64) -> Result<Items<Flow>, NoMemory>
+    ensures { IfOk result (λ xs. list_all is_first_flow xs ≡ true) }
+{
+    let arguments = single(alloc, flow(number(first))?)?;
+    with(arguments, flow(number(second))?)
+}
+
 /// `w.MEMBER(..)`
 #[tactic(auto, using(crate::proofs::Trees::call_made))]
-fn call(alloc: Global, member: &[u8], arguments: Items<Flow>) -> Result<Flow, NoMemory>
-    requires { list_all is_first_flow arguments ≡ true }
+fn call(
+    alloc: Global,
+    member: &[u8],
+    arguments: Result<Items<Flow>, NoMemory>,
+) -> Result<Flow, NoMemory>
+    requires { IfOk arguments (λ xs. list_all is_first_flow xs ≡ true) }
     ensures { IfOk result (λ f. is_call (out-Flow f) ≡ true) }
 {
+    let arguments = arguments?;
     let target = Target::Variable(at(1), name(alloc, b"w".as_slice())?);
     let node = Call::OnTarget(at(1), target, name(alloc, member)?, arguments);
     Ok(Flow::OfCall(at(1), Boxed::new(alloc, node)?))
 }
 
 /// `int NAME = ..;`
-fn kept(alloc: Global, text: &[u8], value: Flow) -> Result<Statement, NoMemory>
-    requires { is_call (out-Flow value) ≡ true }
+fn kept(alloc: Global, text: &[u8], value: Result<Flow, NoMemory>) -> Result<Statement, NoMemory>
+    requires { IfOk value (λ f. is_call (out-Flow f) ≡ true) }
     ensures { IfOk result (λ s. is_first_statement s ≡ true) }
 {
+    let value = value?;
     let variable = Declarator::Initialized(at(1), name(alloc, text)?, value);
     declare(alloc, TypeName::Int(at(1)), variable)
 }
@@ -213,8 +265,8 @@ fn kept(alloc: Global, text: &[u8], value: Flow) -> Result<Statement, NoMemory>
 fn squared(alloc: Global, text: &[u8], value: i64) -> Result<Statement, NoMemory>
     ensures { IfOk result (λ s. is_first_statement s ≡ true) }
 {
-    let arguments = single(alloc, flow(one(number(value))))?;
-    kept(alloc, text, call(alloc, b"sq".as_slice(), arguments)?)
+    let arguments = one_argument(alloc, value);
+    kept(alloc, text, call(alloc, b"sq".as_slice(), arguments))
 }
 
 // ---- classes
@@ -228,17 +280,46 @@ fn formal(alloc: Global, text: &[u8]) -> Result<Formal, NoMemory>
     })
 }
 
+/// `int x`
+fn one_formal(alloc: Global) -> Result<Items<Formal>, NoMemory>
+    ensures { IfOk result (λ xs. list_all is_int_formal xs ≡ true) }
+{
+    single(alloc, formal(alloc, b"x".as_slice())?)
+}
+
+/// `int x, int y`
+fn two_formals(alloc: Global) -> Result<Items<Formal>, NoMemory>
+    ensures { IfOk result (λ xs. list_all is_int_formal xs ≡ true) }
+{
+    let formals = single(alloc, formal(alloc, b"x".as_slice())?)?;
+    with(formals, formal(alloc, b"y".as_slice())?)
+}
+
+/// `{ rtf(..); }`
+fn body(alloc: Global, value: Result<Sum, NoMemory>) -> Result<Block, NoMemory>
+    requires { IfOk value (λ s. is_first_sum s ≡ true) }
+    ensures { IfOk result (λ b. is_one_result b.statements ≡ true) }
+{
+    let value = flow(value)?;
+    Ok(block(single(alloc, Statement::Rtf(at(1), value))?))
+}
+
 /// `int NAME(..) { rtf(..); }`
-fn member(alloc: Global, text: &[u8], formals: Items<Formal>, value: Sum) -> Result<Item, NoMemory>
-    requires formals { list_all is_int_formal formals ≡ true }
-    requires value { is_first_sum value ≡ true }
+fn member(
+    alloc: Global,
+    text: &[u8],
+    formals: Result<Items<Formal>, NoMemory>,
+    body: Result<Block, NoMemory>,
+) -> Result<Item, NoMemory>
+    requires formals { IfOk formals (λ xs. list_all is_int_formal xs ≡ true) }
+    requires body { IfOk body (λ b. is_one_result b.statements ≡ true) }
     ensures { IfOk result (λ i. is_first_item i ≡ true) }
 {
-    let body = block(single(alloc, Statement::Rtf(at(1), flow(value)))?);
     let formals = Formals {
         at: at(1),
-        list: formals,
+        list: formals?,
     };
+    let body = body?;
     Ok(Item::Member(
         at(1),
         ResultType::Typed(at(1), TypeName::Int(at(1))),
@@ -252,39 +333,67 @@ fn member(alloc: Global, text: &[u8], formals: Items<Formal>, value: Sum) -> Res
 fn square(alloc: Global) -> Result<Item, NoMemory>
     ensures { IfOk result (λ i. is_first_item i ≡ true) }
 {
-    let left = variable(alloc, b"x".as_slice())?;
-    let product = times(alloc, left, 4, read(alloc, b"x".as_slice())?)?;
-    let formals = single(alloc, formal(alloc, b"x".as_slice())?)?;
-    member(alloc, b"sq".as_slice(), formals, one(product))
+    let x = read(alloc, b"x".as_slice());
+    let product = times(alloc, term(read(alloc, b"x".as_slice())), 4, x);
+    member(
+        alloc,
+        b"sq".as_slice(),
+        one_formal(alloc),
+        body(alloc, sum(product)),
+    )
 }
 
 /// `int less(int x, int y) { rtf(x - y); }`
 fn difference(alloc: Global) -> Result<Item, NoMemory>
     ensures { IfOk result (λ i. is_first_item i ≡ true) }
 {
-    let left = one(variable(alloc, b"x".as_slice())?);
-    let right = variable(alloc, b"y".as_slice())?;
-    let value = add(alloc, left, SumOperator::Minus, right)?;
-    let formals = single(alloc, formal(alloc, b"x".as_slice())?)?;
-    let formals = with(formals, formal(alloc, b"y".as_slice())?)?;
-    member(alloc, b"less".as_slice(), formals, value)
+    let y = term(read(alloc, b"y".as_slice()));
+    let value = add(
+        alloc,
+        variable(alloc, b"x".as_slice()),
+        SumOperator::Minus,
+        y,
+    );
+    member(
+        alloc,
+        b"less".as_slice(),
+        two_formals(alloc),
+        body(alloc, value),
+    )
+}
+
+fn members(
+    alloc: Global,
+    first: Result<Item, NoMemory>,
+    second: Result<Item, NoMemory>,
+) -> Result<Items<Item>, NoMemory>
+    requires first { IfOk first (λ i. is_first_item i ≡ true) }
+    requires second { IfOk second (λ i. is_first_item i ≡ true) }
+    ensures { IfOk result (λ xs. list_all is_first_item xs ≡ true) }
+{
+    let items = single(alloc, first?)?;
+    with(items, second?)
 }
 
 /// `regular mentat class W { .. };`
 fn class(alloc: Global) -> Result<Declaration, NoMemory>
     ensures { IfOk result (λ d. is_class d ≡ true) }
 {
-    let items = with(single(alloc, square(alloc)?)?, difference(alloc)?)?;
+    let items = members(alloc, square(alloc), difference(alloc))?;
     let class = name(alloc, b"W".as_slice())?;
     Ok(Declaration::Class(at(1), 1, Kind::Regular(at(1)), class, items))
 }
 
 // ---- programs
 
-fn main_of(alloc: Global, statements: Items<Statement>) -> Result<Declaration, NoMemory>
-    requires { list_all is_first_statement statements ≡ true }
+fn main_of(
+    alloc: Global,
+    statements: Result<Items<Statement>, NoMemory>,
+) -> Result<Declaration, NoMemory>
+    requires { IfOk statements (λ xs. list_all is_first_statement xs ≡ true) }
     ensures { IfOk result (λ d. is_main d ≡ true) }
 {
+    let statements = statements?;
     let name = Name {
         from: 0,
         text: Bytes::from_slice(alloc, b"main".as_slice())?,
@@ -292,24 +401,28 @@ fn main_of(alloc: Global, statements: Items<Statement>) -> Result<Declaration, N
     Ok(Declaration::Function(at(1), TypeName::Int(at(1)), name, None, block(statements)))
 }
 
-fn alone(alloc: Global, statements: Items<Statement>) -> Result<Program, NoMemory>
-    requires { list_all is_first_statement statements ≡ true }
+fn alone(alloc: Global, main: Result<Declaration, NoMemory>) -> Result<Program, NoMemory>
+    requires { IfOk main (λ d. is_main d ≡ true) }
     ensures { IfOk result (λ p. is_first_form p ≡ true) }
 {
-    let declarations = single(alloc, main_of(alloc, statements)?)?;
+    let declarations = single(alloc, main?)?;
     Ok(Program {
         at: at(1),
         declarations,
     })
 }
 
-/// The class, and `main` behind it.
-fn with_class(alloc: Global, statements: Items<Statement>) -> Result<Program, NoMemory>
-    requires { list_all is_first_statement statements ≡ true }
+fn behind(
+    alloc: Global,
+    class: Result<Declaration, NoMemory>,
+    main: Result<Declaration, NoMemory>,
+) -> Result<Program, NoMemory>
+    requires class { IfOk class (λ d. is_class d ≡ true) }
+    requires main { IfOk main (λ d. is_main d ≡ true) }
     ensures { IfOk result (λ p. is_first_form p ≡ true) }
 {
-    let main = main_of(alloc, statements)?;
-    let declarations = with(single(alloc, class(alloc)?)?, main)?;
+    let declarations = single(alloc, class?)?;
+    let declarations = with(declarations, main?)?;
     Ok(Program {
         at: at(1),
         declarations,
@@ -329,11 +442,44 @@ fn start(alloc: Global) -> Result<BodyStart, NoMemory>
     })
 }
 
-fn walked(alloc: Global, program: &Program, budget: u64) -> Result<Yield, NoMemory>
+fn started(alloc: Global, program: &Program, budget: u64) -> Result<Yield, NoMemory>
     requires built { is_first_form program.now ≡ true }
     requires budget { budget ≤ 4000000 }
 {
     walk(alloc, program, &start(alloc)?, &Replies::new(alloc), budget)
+}
+
+fn walked(alloc: Global, program: Result<Program, NoMemory>, budget: u64) -> Result<Yield, NoMemory>
+    requires built { IfOk program (λ p. is_first_form p ≡ true) }
+    requires budget { budget ≤ 4000000 }
+{
+    let program = program?;
+    started(alloc, &program, budget)
+}
+
+/// `main` alone.
+fn plain(
+    alloc: Global,
+    statements: Result<Items<Statement>, NoMemory>,
+    budget: u64,
+) -> Result<Yield, NoMemory>
+    requires built { IfOk statements (λ xs. list_all is_first_statement xs ≡ true) }
+    requires budget { budget ≤ 4000000 }
+{
+    walked(alloc, alone(alloc, main_of(alloc, statements)), budget)
+}
+
+/// `main` behind the class.
+fn calling(
+    alloc: Global,
+    statements: Result<Items<Statement>, NoMemory>,
+    budget: u64,
+) -> Result<Yield, NoMemory>
+    requires built { IfOk statements (λ xs. list_all is_first_statement xs ≡ true) }
+    requires budget { budget ≤ 4000000 }
+{
+    let main = main_of(alloc, statements);
+    walked(alloc, behind(alloc, class(alloc), main), budget)
 }
 
 fn is_ended(done: &Yield, lines: &[u8], turns: u64, end: BodyEnd) -> bool {
@@ -353,22 +499,16 @@ fn overflow(line: u32) -> BodyEnd {
 fn seven_and_minus_one(alloc: Global) -> Result<Statement, NoMemory>
     ensures { IfOk result (λ s. is_first_statement s ≡ true) }
 {
-    let six = product(alloc, 2, 1, 3)?;
-    let seven = add(alloc, one(number(1)), SumOperator::Plus, six)?;
-    let minus_one = add(alloc, one(number(4)), SumOperator::Minus, number(5))?;
+    let six = times(alloc, term(digit(2)), 1, digit(3));
+    let seven = add(alloc, number(1), SumOperator::Plus, six);
+    let minus_one = add(alloc, number(4), SumOperator::Minus, term(digit(5)));
     print_two(alloc, seven, minus_one)
-}
-
-fn prints(alloc: Global, budget: u64) -> Result<Yield, NoMemory>
-    requires { budget ≤ 4000000 }
-{
-    let statements = single(alloc, seven_and_minus_one(alloc)?)?;
-    walked(alloc, &alone(alloc, statements)?, budget)
 }
 
 #[test]
 fn prints_its_values(rt: HostRuntime) -> Result<(), Fail> {
-    let result = prints(rt.alloc(), 1)?;
+    let statements = first(rt.alloc(), seven_and_minus_one(rt.alloc()));
+    let result = plain(rt.alloc(), statements, 1)?;
     assert!(rt; is_ended(&result, b"7 -1\n".as_slice(), 1, BodyEnd::Done));
     assert_eq!(rt; result.state.as_slice(), [5].as_slice());
     Ok(())
@@ -376,40 +516,44 @@ fn prints_its_values(rt: HostRuntime) -> Result<(), Fail> {
 
 #[test]
 fn the_start_takes_a_turn(rt: HostRuntime) -> Result<(), Fail> {
-    let result = prints(rt.alloc(), 0)?;
+    let statements = first(rt.alloc(), seven_and_minus_one(rt.alloc()));
+    let result = plain(rt.alloc(), statements, 0)?;
     assert!(rt; is_ended(&result, b"".as_slice(), 1, BodyEnd::Spent));
     Ok(())
 }
 
-/// The line above, and then one whose second value is too large on line 3.
-fn traps(alloc: Global) -> Result<Yield, NoMemory> {
-    let statements = single(alloc, seven_and_minus_one(alloc)?)?;
-    let too_large = one(product(alloc, i64::MAX, 3, 2)?);
-    let statements = then(statements, print_two(alloc, one(number(8)), too_large)?)?;
-    let statements = then(statements, seven_and_minus_one(alloc)?)?;
-    walked(alloc, &alone(alloc, statements)?, 9)
+/// `print(8, MAX * 2);`, whose operator stands on line 3.
+fn too_large(alloc: Global) -> Result<Statement, NoMemory>
+    ensures { IfOk result (λ s. is_first_statement s ≡ true) }
+{
+    let product = times(alloc, term(digit(i64::MAX)), 3, digit(2));
+    print_two(alloc, number(8), sum(product))
 }
 
 #[test]
 fn a_trap_keeps_the_lines_before_it(rt: HostRuntime) -> Result<(), Fail> {
-    let result = traps(rt.alloc())?;
+    let statements = first(rt.alloc(), seven_and_minus_one(rt.alloc()));
+    let statements = then(statements, too_large(rt.alloc()));
+    let statements = then(statements, seven_and_minus_one(rt.alloc()));
+    let result = plain(rt.alloc(), statements, 9)?;
     assert!(rt; is_ended(&result, b"7 -1\n".as_slice(), 1, overflow(3)));
     Ok(())
 }
 
 /// `print(0 - MAX - 1, MAX);`
-fn extremes(alloc: Global) -> Result<Yield, NoMemory> {
-    let least = add(alloc, one(number(0)), SumOperator::Minus, number(i64::MAX))?;
-    let least = add(alloc, least, SumOperator::Minus, number(1))?;
-    let greatest = one(number(i64::MAX));
-    let statements = single(alloc, print_two(alloc, least, greatest)?)?;
-    walked(alloc, &alone(alloc, statements)?, 1)
+fn extremes(alloc: Global) -> Result<Statement, NoMemory>
+    ensures { IfOk result (λ s. is_first_statement s ≡ true) }
+{
+    let least = add(alloc, number(0), SumOperator::Minus, term(digit(i64::MAX)));
+    let least = add(alloc, least, SumOperator::Minus, term(digit(1)));
+    print_two(alloc, least, number(i64::MAX))
 }
 
 #[test]
 fn the_least_and_the_greatest_number_are_printed(rt: HostRuntime) -> Result<(), Fail> {
     let lines = b"-9223372036854775808 9223372036854775807\n".as_slice();
-    let result = extremes(rt.alloc())?;
+    let statements = first(rt.alloc(), extremes(rt.alloc()));
+    let result = plain(rt.alloc(), statements, 1)?;
     assert!(rt; is_ended(&result, lines, 1, BodyEnd::Done));
     Ok(())
 }
@@ -420,42 +564,40 @@ fn the_least_and_the_greatest_number_are_printed(rt: HostRuntime) -> Result<(), 
 fn first_square(alloc: Global, value: i64) -> Result<Items<Statement>, NoMemory>
     ensures { IfOk result (λ xs. list_all is_first_statement xs ≡ true) }
 {
-    let statements = single(alloc, receiver(alloc)?)?;
-    then(statements, squared(alloc, b"a".as_slice(), value)?)
+    let statements = first(alloc, receiver(alloc));
+    then(statements, squared(alloc, b"a".as_slice(), value))
 }
 
 /// `print(a, a);`
 fn twice(alloc: Global) -> Result<Statement, NoMemory>
     ensures { IfOk result (λ s. is_first_statement s ≡ true) }
 {
-    let first = one(variable(alloc, b"a".as_slice())?);
-    let second = one(variable(alloc, b"a".as_slice())?);
-    print_two(alloc, first, second)
+    let a = variable(alloc, b"a".as_slice());
+    print_two(alloc, a, variable(alloc, b"a".as_slice()))
 }
 
 /// `print(a + b);`
 fn both(alloc: Global) -> Result<Statement, NoMemory>
     ensures { IfOk result (λ s. is_first_statement s ≡ true) }
 {
-    let left = one(variable(alloc, b"a".as_slice())?);
-    let right = variable(alloc, b"b".as_slice())?;
-    print_one(alloc, add(alloc, left, SumOperator::Plus, right)?)
+    let a = variable(alloc, b"a".as_slice());
+    let b = term(read(alloc, b"b".as_slice()));
+    print_one(alloc, add(alloc, a, SumOperator::Plus, b))
 }
 
 /// `W w; int a = w.sq(3); print(a, a); int b = w.sq(4); print(a + b);`
-fn squares(alloc: Global, budget: u64) -> Result<Yield, NoMemory>
-    requires { budget ≤ 4000000 }
+fn squares(alloc: Global) -> Result<Items<Statement>, NoMemory>
+    ensures { IfOk result (λ xs. list_all is_first_statement xs ≡ true) }
 {
-    let statements = then(first_square(alloc, 3)?, twice(alloc)?)?;
-    let statements = then(statements, squared(alloc, b"b".as_slice(), 4)?)?;
-    let statements = then(statements, both(alloc)?)?;
-    walked(alloc, &with_class(alloc, statements)?, budget)
+    let statements = then(first_square(alloc, 3), twice(alloc));
+    let statements = then(statements, squared(alloc, b"b".as_slice(), 4));
+    then(statements, both(alloc))
 }
 
 /// A turn for `main`, and two for each call: a result that is used again takes none.
 #[test]
 fn squares_are_added(rt: HostRuntime) -> Result<(), Fail> {
-    let result = squares(rt.alloc(), 5)?;
+    let result = calling(rt.alloc(), squares(rt.alloc()), 5)?;
     assert!(rt; is_ended(&result, b"9 9\n25\n".as_slice(), 5, BodyEnd::Done));
     Ok(())
 }
@@ -463,25 +605,24 @@ fn squares_are_added(rt: HostRuntime) -> Result<(), Fail> {
 /// The second call is made, and its body isn't started.
 #[test]
 fn a_spent_budget_keeps_the_lines_before_it(rt: HostRuntime) -> Result<(), Fail> {
-    let result = squares(rt.alloc(), 4)?;
+    let result = calling(rt.alloc(), squares(rt.alloc()), 4)?;
     assert!(rt; is_ended(&result, b"9 9\n".as_slice(), 5, BodyEnd::Spent));
     Ok(())
 }
 
 /// `W w; int a = w.less(7, 2); print(a, a);`
-fn differences(alloc: Global) -> Result<Yield, NoMemory> {
-    let arguments = single(alloc, flow(one(number(7))))?;
-    let arguments = with(arguments, flow(one(number(2))))?;
-    let value = call(alloc, b"less".as_slice(), arguments)?;
-    let called = kept(alloc, b"a".as_slice(), value)?;
-    let statements = then(single(alloc, receiver(alloc)?)?, called)?;
-    let statements = then(statements, twice(alloc)?)?;
-    walked(alloc, &with_class(alloc, statements)?, 9)
+fn differences(alloc: Global) -> Result<Items<Statement>, NoMemory>
+    ensures { IfOk result (λ xs. list_all is_first_statement xs ≡ true) }
+{
+    let value = call(alloc, b"less".as_slice(), two_arguments(alloc, 7, 2));
+    let statements = first(alloc, receiver(alloc));
+    let statements = then(statements, kept(alloc, b"a".as_slice(), value));
+    then(statements, twice(alloc))
 }
 
 #[test]
 fn arguments_come_in_their_order(rt: HostRuntime) -> Result<(), Fail> {
-    let result = differences(rt.alloc())?;
+    let result = calling(rt.alloc(), differences(rt.alloc()), 9)?;
     assert!(rt; is_ended(&result, b"5 5\n".as_slice(), 3, BodyEnd::Done));
     Ok(())
 }
@@ -490,29 +631,20 @@ fn arguments_come_in_their_order(rt: HostRuntime) -> Result<(), Fail> {
 fn unneeded(alloc: Global) -> Result<Items<Statement>, NoMemory>
     ensures { IfOk result (λ xs. list_all is_first_statement xs ≡ true) }
 {
-    then(first_square(alloc, i64::MAX)?, seven_and_minus_one(alloc)?)
-}
-
-fn unneeded_trap(alloc: Global) -> Result<Yield, NoMemory> {
-    walked(alloc, &with_class(alloc, unneeded(alloc)?)?, 9)
+    then(first_square(alloc, i64::MAX), seven_and_minus_one(alloc))
 }
 
 #[test]
 fn a_trapped_result_that_is_not_needed_is_not_reported(rt: HostRuntime) -> Result<(), Fail> {
-    let result = unneeded_trap(rt.alloc())?;
+    let result = calling(rt.alloc(), unneeded(rt.alloc()), 9)?;
     assert!(rt; is_ended(&result, b"7 -1\n".as_slice(), 3, BodyEnd::Done));
     Ok(())
 }
 
-/// The same, and then `print(a, a);`.
-fn needed_trap(alloc: Global) -> Result<Yield, NoMemory> {
-    let statements = then(unneeded(alloc)?, twice(alloc)?)?;
-    walked(alloc, &with_class(alloc, statements)?, 9)
-}
-
 #[test]
 fn a_trapped_result_is_reported_where_it_is_printed(rt: HostRuntime) -> Result<(), Fail> {
-    let result = needed_trap(rt.alloc())?;
+    let statements = then(unneeded(rt.alloc()), twice(rt.alloc()));
+    let result = calling(rt.alloc(), statements, 9)?;
     assert!(rt; is_ended(&result, b"7 -1\n".as_slice(), 3, overflow(4)));
     Ok(())
 }
