@@ -1,14 +1,11 @@
 -- Calls on variables, and members in place.
-use Rattle.std.proofs.Common.{◌≡◌, ℕ, ◌<◌, length, get_or, arith, ◌+◌, Bool, true, false, cond, List, [], ◌∷◌, map, Option, Some, None, ℤ, Result, Ok, Err, refl, rules, ap, sym, ◌∙◌, subst}
+use Rattle.std.proofs.Common.{◌≡◌, ℕ, get_or, true, false, cond, List, [], ◌∷◌, map, Option, Some, None, ℤ, Result, Ok, Err, refl, rules, ap, sym, ◌∙◌}
 use Rattle.mpl_ast.specs.declared.class.Item.{Item}
 use Rattle.mpl_ast.specs.declared.class.ResultType.{ResultType}
 use Rattle.mpl_ast.specs.declared.class.ResultType.TheVariants.{Void, Typed}
 use Rattle.mpl_ast.specs.declared.flow.Flow.{Flow}
 use Rattle.mpl_ast.specs.declared.place.At.{At}
-use Rattle.mpl_ast.specs.declared.place.Name.{Name}
 use Rattle.mpl_ast.specs.declared.statement.Statement.{Statement, Rtf, the_lemmas}
-use Rattle.mpl_ast.specs.declared.statement.TypeName.{TypeName}
-use Rattle.mpl_ast.specs.declared.statement.TypeName.TheVariants as type
 use Rattle.mpl_value.specs.declared.body.Arg.{Arg}
 use Rattle.mpl_value.specs.declared.body.Arg.TheVariants as arg
 use Rattle.mpl_value.specs.declared.body.BodyEnd.{BodyEnd}
@@ -22,7 +19,7 @@ use Rattle.mpl_mean.specs.FirstForm as first
 use Rattle.mpl_mean.specs.FirstForm.{is_one_result}
 use Rattle.mpl_mean.specs.CallMeaning.{answer, any_unknown, call_of_member, call_on, class_of_spot, known_words, leftmost_trap, passes, regular_call, unless_trapped}
 use Rattle.mpl_mean.specs.Context.{Context}
-use Rattle.mpl_mean.specs.Layout.{Class, Member, Part, class_named, class_of_type, classes_of, member_named, members_from, part_named}
+use Rattle.mpl_mean.specs.Layout.{Class, Member, Part, class_of_type, member_named, members_from, part_named}
 use Rattle.mpl_mean.specs.PlaceMeaning.{spot_of_name, spot_of_part}
 use Rattle.mpl_mean.specs.StatementMeaning.{does, gives_result}
 use Rattle.mpl_mean.specs.Store.{Store, Outcome, Goes, Ends, Doing, all_of, and_then, give, in_turn, spend, variable_named, waits, Variable as Meant}

@@ -1,11 +1,11 @@
 -- What steps come to.
-use Rattle.std.proofs.Common.{◌≡◌, ◌≢◌, ℕ, List, Result, Ok, Err, ap, sym, subst, ◌∙◌}
+use Rattle.std.proofs.Common.{◌≡◌, ◌≢◌, ℕ, List, Result, Ok, Err, ap, sym, ◌∙◌}
 use Rattle.std.specs.Result.{IsErrAnd}
 use Rattle.mpl_value.specs.declared.body.Arg.{Arg}
 use Rattle.mpl_mean.specs.CallMeaning.{regular_call}
 use Rattle.mpl_mean.specs.Context.{Context}
 use Rattle.mpl_mean.specs.Layout.{Member}
-use Rattle.mpl_mean.specs.Store.{Store, Outcome, Goes, Ends, Doing, all_of, spend}
+use Rattle.mpl_mean.specs.Store.{Store, Outcome, Goes, Doing, all_of, spend}
 use Rattle.mpl_walk.specs.declared.held.Variable.{Variable}
 use Rattle.mpl_walk.specs.declared.stop.Stop.{Stop}
 use Rattle.mpl_walk.specs.declared.stop.Stop.TheVariants as stop

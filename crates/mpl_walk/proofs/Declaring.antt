@@ -1,5 +1,5 @@
 -- The words of new variables.
-use Rattle.std.proofs.Common.{◌≡◌, ◌&&◌, ◌<◌, length, get_or, arith, ℕ, Bool, true, cond, List, [], ◌∷◌, Option, Some, None, refl, ap, sym, ◌∙◌}
+use Rattle.std.proofs.Common.{◌≡◌, get_or, ℕ, true, cond, List, [], ◌∷◌, Option, Some, None, refl, ap, sym, ◌∙◌}
 use Rattle.std.proofs.lemmas.Bool.{and_parts}
 use Rattle.std.specs.List.{list_all}
 use Rattle.mpl_ast.specs.declared.class.Item.{Item}

@@ -1,8 +1,7 @@
 -- What is passed on.
-use Rattle.std.proofs.Common.{◌≡◌, ◌&&◌, Bool, true, List, [], ◌∷◌, map, Option, Some, None, ℤ, Ok, Err, refl, rules, ap, sym, ◌∙◌}
+use Rattle.std.proofs.Common.{◌≡◌, ◌&&◌, true, List, [], ◌∷◌, map, refl, rules, ap, sym, ◌∙◌}
 use Rattle.std.proofs.lemmas.Bool.{and_parts}
 use Rattle.std.specs.List.{list_all}
-use Rattle.mpl_ast.specs.declared.expression.Expression.{Expression}
 use Rattle.mpl_ast.specs.declared.expression.Target.{Target}
 use Rattle.mpl_ast.specs.declared.flow.Call.{Call}
 use Rattle.mpl_ast.specs.declared.flow.Call as call
@@ -11,18 +10,12 @@ use Rattle.mpl_ast.specs.declared.flow.Flow as flow
 use Rattle.mpl_ast.specs.declared.place.At.{At}
 use Rattle.mpl_ast.specs.declared.place.Name.{Name}
 use Rattle.mpl_value.specs.declared.body.Arg.{Arg}
-use Rattle.mpl_value.specs.declared.known.Trap.{Trap}
 use Rattle.mpl_mean.specs.FirstForm.{is_first_call, is_first_flow, is_variable}
-use Rattle.mpl_mean.specs.CallMeaning.{Passes, at_context, call_on_target, call_value, held_or, pass, passes, whole_name, whole_variable}
+use Rattle.mpl_mean.specs.CallMeaning.{at_context, call_on_target, call_value, passes}
 use Rattle.mpl_mean.specs.Context.{Context}
-use Rattle.mpl_mean.specs.ExpressionMeaning.{value_of}
 use Rattle.mpl_mean.specs.Store.{Store, Doing, variable_named}
-use Rattle.mpl_walk.specs.declared.held.Held.TheVariants as held
-use Rattle.mpl_walk.specs.declared.held.Variable.{Variable}
 use Rattle.mpl_ast.specs.declared.expression.Target.TheVariants as targets
 use Rattle.mpl_walk.proofs.Calling.{on_name}
-use Rattle.mpl_walk.specs.Evaluated.{evaluated, passed}
-use Rattle.mpl_walk.specs.Held.{Stands, variable_held, variables_held}
 
 pub flow_of_call : (at : At) (k : Call) (c : Context) → passes (flow.OfCall at k) c ≡ call_value k c
 flow_of_call at k c = search (rules, flow.the_lemmas)

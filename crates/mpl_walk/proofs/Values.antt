@@ -1,20 +1,16 @@
 -- The values of operations.
 use Rattle.std.proofs.Common.{◌≡◌, ℕ, ℤ, Option, Result, Ok, Err, refl, rules, ap, ◌∙◌}
-use Rattle.mpl_ast.specs.declared.expression.Sum.{Sum}
-use Rattle.mpl_ast.specs.declared.expression.Sum as sum
-use Rattle.mpl_ast.specs.declared.expression.SumOperator.{SumOperator}
 use Rattle.mpl_ast.specs.declared.expression.Term.{Term}
 use Rattle.mpl_ast.specs.declared.expression.Term as term
 use Rattle.mpl_ast.specs.declared.expression.TermOperator.{TermOperator}
 use Rattle.mpl_ast.specs.declared.expression.Unary.{Unary}
 use Rattle.mpl_ast.specs.declared.place.At.{At}
 use Rattle.mpl_mean.specs.Context.{Context}
-use Rattle.mpl_mean.specs.ExpressionMeaning.{Evaluates, arithmetic_of, sum_operation, term_operation}
+use Rattle.mpl_mean.specs.ExpressionMeaning.{Evaluates, arithmetic_of, term_operation}
 use Rattle.mpl_mean.specs.Store.{Store, and_then, computed, give}
 use Rattle.mpl_mean.specs.Values.{first_word, int_value, word_of}
-use Rattle.mpl_value.specs.declared.known.Trap.{Trap}
 use Rattle.mpl_value.specs.declared.known.TrapKind.{TrapKind}
-use Rattle.mpl_walk.specs.Evaluated.{evaluated, on_line, sum_value, term_value, unary_value}
+use Rattle.mpl_walk.specs.Evaluated.{evaluated, on_line, term_value, unary_value}
 use Rattle.mpl_walk.specs.Held.{words_held}
 
 computed_value : (line : ℕ) (outcome : Result ℤ TrapKind) (s : Store)

@@ -1,4 +1,4 @@
-use Rattle.std.proofs.Common.{◌≡◌, sym, ap, subst, ◌∙◌}
+use Rattle.std.proofs.Common.{sym, ap, subst, ◌∙◌}
 use Rattle.mpl_value.specs.declared.body.Arg.{Arg}
 use Rattle.mpl_mean.specs.CallMeaning.{call_value, passes}
 use Rattle.mpl_mean.specs.Store.{Doing}

@@ -1,4 +1,4 @@
-use Rattle.std.proofs.Common.{◌≡◌, ◌++◌, map, sym, ap, subst, ◌∙◌}
+use Rattle.std.proofs.Common.{◌++◌, map, sym, ap, subst, ◌∙◌}
 use Rattle.mpl_mean.specs.StatementMeaning.{line_of, values_of}
 use Rattle.mpl_mean.specs.Store.{printed}
 use Rattle.mpl_walk.specs.Held.{Stands, value_held}

@@ -1,4 +1,4 @@
-use Rattle.std.proofs.Common.{◌≡◌, ℕ, map, sym, ap, subst, ◌∙◌}
+use Rattle.std.proofs.Common.{ℕ, map, sym, ap, subst, ◌∙◌}
 use Rattle.mpl_mean.specs.BodyMeaning.{run}
 use Rattle.mpl_mean.specs.StatementMeaning.{does}
 use Rattle.mpl_mean.specs.Store.{and_then, in_turn, spend}

@@ -1,6 +1,5 @@
 use Rattle.std.proofs.Common.{◌≡◌, [], rules, sym, ap, subst, ◌∙◌}
 use Rattle.mpl_value.specs.declared.body.BodyResult.TheVariants.{Open}
-use Rattle.mpl_value.specs.declared.body.Yield.{Yield}
 use Rattle.mpl_mean.specs.BodyMeaning.{main_yield, run, yield_of}
 use Rattle.mpl_mean.specs.Store.{Store}
 use Rattle.mpl_walk.specs.declared.setting.Progress.{Progress}

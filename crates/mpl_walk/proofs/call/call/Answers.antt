@@ -1,12 +1,10 @@
-use Rattle.std.proofs.Common.{◌≡◌, true, map, rules, sym, ap, subst, ◌∙◌}
+use Rattle.std.proofs.Common.{map, sym, ap, subst, ◌∙◌}
 use Rattle.std.specs.List.{list_all}
 use Rattle.mpl_value.specs.declared.body.Arg.{Arg}
-use Rattle.mpl_ast.specs.declared.expression.Target.TheVariants.{Variable}
 use Rattle.mpl_mean.specs.FirstForm.{is_first_call, is_first_flow}
-use Rattle.mpl_mean.specs.CallMeaning.{call_value, call_on_target, passes, regular_call}
-use Rattle.mpl_mean.specs.Context.{Context}
+use Rattle.mpl_mean.specs.CallMeaning.{passes, regular_call}
 use Rattle.mpl_mean.specs.Store.{Doing, variable_named}
-use Rattle.mpl_walk.specs.Held.{Stands, arg_held}
+use Rattle.mpl_walk.specs.Held.{arg_held}
 use Rattle.mpl_walk.specs.Runs.{Comes, with_turns}
 use Rattle.mpl_walk.proofs.Calling.{on_name}
 use Rattle.mpl_walk.proofs.Coming.{stands_with}

@@ -1,4 +1,4 @@
-use Rattle.std.proofs.Common.{◌≡◌, refl, sym, ap, subst, map, ◌∙◌}
+use Rattle.std.proofs.Common.{refl, sym, ap, subst, map, ◌∙◌}
 use Rattle.mpl_ast.specs.declared.statement.Block.{Block}
 use Rattle.mpl_value.specs.declared.body.Arg.{Arg}
 use Rattle.mpl_mean.specs.BodyMeaning.{formals_holding}

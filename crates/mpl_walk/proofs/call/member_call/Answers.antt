@@ -1,4 +1,4 @@
-use Rattle.std.proofs.Common.{◌≡◌, ℕ, map, refl, sym, ap, subst, ◌∙◌}
+use Rattle.std.proofs.Common.{ℕ, map, sym, ap, subst, ◌∙◌}
 use Rattle.mpl_mean.specs.CallMeaning.{known_words, leftmost_trap, passes, regular_call}
 use Rattle.mpl_mean.specs.Store.{spend}
 use Rattle.mpl_walk.specs.Held.{arg_held}

@@ -1,6 +1,5 @@
-use Rattle.std.proofs.Common.{◌≡◌, List, Option, Some, None, MatchOption, ap, sym, subst, ◌∙◌}
+use Rattle.std.proofs.Common.{List, Option, Some, None, MatchOption, ap, sym, subst, ◌∙◌}
 use Rattle.mpl_ast.specs.declared.program.Declaration.{Declaration}
-use Rattle.mpl_ast.specs.declared.statement.TypeName.{TypeName}
 use Rattle.mpl_mean.specs.CallMeaning.{call_of_member, regular_call}
 use Rattle.mpl_mean.specs.Layout.{class_named, class_of_type, classes_of}
 use Rattle.mpl_walk.specs.Found.{IsClassOf}
