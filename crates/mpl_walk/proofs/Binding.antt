@@ -1,11 +1,10 @@
 -- Formals hold what is passed.
-use Rattle.std.proofs.Common.{◌≡◌, ℕ, ◌+◌, Bool, true, List, [], ◌∷◌, ◌++◌, map, drop, Option, Some, None, ℤ, refl, ap, sym, subst, ◌∙◌, append_assoc}
+use Rattle.std.proofs.Common.{◌≡◌, ℕ, ◌+◌, true, List, [], ◌∷◌, ◌++◌, map, drop, Option, Some, None, ℤ, refl, ap, sym, subst, ◌∙◌, append_assoc}
 use Rattle.std.proofs.lemmas.List.{append-nil, map-append}
 use Rattle.mpl_ast.specs.declared.class.Formal.{Formal}
 use Rattle.mpl_ast.specs.declared.program.Declaration.{Declaration}
 use Rattle.mpl_ast.specs.declared.statement.TypeName.{TypeName}
 use Rattle.mpl_ast.specs.declared.statement.TypeName.TheVariants as type
-use Rattle.mpl_value.specs.declared.body.Arg.TheVariants as arg
 use Rattle.mpl_mean.specs.BodyMeaning.{formals_holding}
 use Rattle.mpl_mean.specs.FirstForm.{is_int}
 use Rattle.mpl_mean.specs.CallMeaning.{known_words, leftmost_trap}
@@ -13,7 +12,6 @@ use Rattle.mpl_mean.specs.Layout.{words_of}
 use Rattle.mpl_mean.specs.PlaceMeaning.{is_bool}
 use Rattle.mpl_mean.specs.Store.{words_at}
 use Rattle.mpl_mean.specs.Store as mean
-use Rattle.mpl_mean.specs.Values.{Value}
 use Rattle.mpl_walk.specs.declared.held.Held.{Held}
 use Rattle.mpl_walk.specs.declared.held.Held.TheVariants as held
 use Rattle.mpl_walk.specs.declared.held.Variable.{Variable}

@@ -1,14 +1,11 @@
 -- Calls on variables, and members in place.
-use Rattle.std.proofs.Common.{◌≡◌, ℕ, ◌<◌, length, get_or, arith, ◌+◌, Bool, true, false, cond, List, [], ◌∷◌, map, Option, Some, None, ℤ, Result, Ok, Err, refl, rules, ap, sym, ◌∙◌, subst}
+use Rattle.std.proofs.Common.{◌≡◌, ℕ, get_or, true, false, cond, List, [], ◌∷◌, map, Option, Some, None, ℤ, Result, Ok, Err, refl, rules, ap, sym, ◌∙◌}
 use Rattle.mpl_ast.specs.declared.class.Item.{Item}
 use Rattle.mpl_ast.specs.declared.class.ResultType.{ResultType}
 use Rattle.mpl_ast.specs.declared.class.ResultType.TheVariants.{Void, Typed}
 use Rattle.mpl_ast.specs.declared.flow.Flow.{Flow}
 use Rattle.mpl_ast.specs.declared.place.At.{At}
-use Rattle.mpl_ast.specs.declared.place.Name.{Name}
 use Rattle.mpl_ast.specs.declared.statement.Statement.{Statement, Rtf, the_lemmas}
-use Rattle.mpl_ast.specs.declared.statement.TypeName.{TypeName}
-use Rattle.mpl_ast.specs.declared.statement.TypeName.TheVariants as type
 use Rattle.mpl_value.specs.declared.body.Arg.{Arg}
 use Rattle.mpl_value.specs.declared.body.Arg.TheVariants as arg
 use Rattle.mpl_value.specs.declared.body.BodyEnd.{BodyEnd}
@@ -22,7 +19,7 @@ use Rattle.mpl_mean.specs.FirstForm as first
 use Rattle.mpl_mean.specs.FirstForm.{is_one_result}
 use Rattle.mpl_mean.specs.CallMeaning.{answer, any_unknown, call_of_member, call_on, class_of_spot, known_words, leftmost_trap, passes, regular_call, unless_trapped}
 use Rattle.mpl_mean.specs.Context.{Context}
-use Rattle.mpl_mean.specs.Layout.{Class, Member, Part, class_named, class_of_type, classes_of, member_named, members_from, part_named}
+use Rattle.mpl_mean.specs.Layout.{Class, Member, Part, class_of_type, member_named, members_from, part_named}
 use Rattle.mpl_mean.specs.PlaceMeaning.{spot_of_name, spot_of_part}
 use Rattle.mpl_mean.specs.StatementMeaning.{does, gives_result}
 use Rattle.mpl_mean.specs.Store.{Store, Outcome, Goes, Ends, Doing, all_of, and_then, give, in_turn, spend, variable_named, waits, Variable as Meant}
@@ -150,14 +147,6 @@ begins inner m words vs statements budget store turns body formals =
     ∙ ap (λ all. runs_as inner m store (variables_held vs) all inner.turns) body
     ∙ ap (λ n. runs_as inner m store (variables_held vs) statements n) turns
 
-pub body_spent : (inner : Context) (m : Member) (words : List (List ℤ)) (vs : List Variable) (budget : ℕ) (store : Store)
-    → inner.turns ≡ budget → formals_holding m.formals words ≡ variables_held vs
-    → spend budget (inside vs store.turns) ≡ Ends end.Spent (with_turns (inside vs store.turns) (budget + 1))
-    → regular_body inner m words store ≡ Ends end.Spent (with_turns store (budget + 1))
-body_spent inner m words vs budget store turns formals spends =
-    begins inner m words vs m.body.statements budget store turns refl formals
-    ∙ ap (λ outcome. ended m store (and_then outcome (λ _. in_turn (map (λ s. does s inner) m.body.statements)))) spends
-
 pub body_gives : (inner : Context) (m : Member) (words : List (List ℤ)) (vs : List Variable) (at : At) (flow : Flow) (budget after : ℕ) (store : Store) (r : Result Held Trap)
     → inner.turns ≡ budget → m.body.statements ≡ Rtf at flow ∷ [] → formals_holding m.formals words ≡ variables_held vs
     → spend budget (inside vs store.turns) ≡ Goes tt (inside vs after)
@@ -173,7 +162,3 @@ pub one_operand : (xs : List Statement) (x : Statement) → is_one_result xs ≡
 one_operand [] x one found = cc
 one_operand (a ∷ []) x one found = (ap (λ (y : Statement). y ∷ []) (sym found), ap (λ (y : Statement). first.gives_result y) found ∙ one)
 one_operand (a ∷ b ∷ others) x one found = cc
-
-pub one_is_there : (xs : List Statement) → is_one_result xs ≡ true → 0 < length xs
-one_is_there [] one = cc
-one_is_there (a ∷ others) one = omega arith

@@ -1,11 +1,11 @@
 -- What steps come to.
-use Rattle.std.proofs.Common.{◌≡◌, ◌≢◌, ℕ, List, Result, Ok, Err, ap, sym, subst, ◌∙◌}
+use Rattle.std.proofs.Common.{◌≡◌, ◌≢◌, ℕ, List, Result, Ok, Err, ap, sym, ◌∙◌}
 use Rattle.std.specs.Result.{IsErrAnd}
 use Rattle.mpl_value.specs.declared.body.Arg.{Arg}
 use Rattle.mpl_mean.specs.CallMeaning.{regular_call}
 use Rattle.mpl_mean.specs.Context.{Context}
 use Rattle.mpl_mean.specs.Layout.{Member}
-use Rattle.mpl_mean.specs.Store.{Store, Outcome, Goes, Ends, Doing, all_of, spend}
+use Rattle.mpl_mean.specs.Store.{Store, Outcome, Goes, Doing, all_of, spend}
 use Rattle.mpl_walk.specs.declared.held.Variable.{Variable}
 use Rattle.mpl_walk.specs.declared.stop.Stop.{Stop}
 use Rattle.mpl_walk.specs.declared.stop.Stop.TheVariants as stop
@@ -20,7 +20,7 @@ comes_stopped budget value outcome s (Err e) why is told =
     λ memory. told (λ same. memory (is ∙ same)) ∙ ap (λ w. stopped budget w s) (sym is)
 
 pub stands_with : (vs : List Variable) (c : Context) (s : Store) (turns : ℕ) → Stands vs c s → Stands vs c (with_turns s turns)
-stands_with vs c s turns stands = record { variables = stands.variables; stateless = stands.stateless; whole = stands.whole; }
+stands_with vs c s turns stands = record { variables = stands.variables; stateless = stands.stateless; whole = stands.whole }
 
 pub arguments_stopped : (c : Context) (m : Member) (arguments : List (Doing Arg)) (budget : ℕ) (why : Stop) (s t : Store)
     → all_of arguments s ≡ stopped budget why t → regular_call c m arguments s ≡ stopped budget why t

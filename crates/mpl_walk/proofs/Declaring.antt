@@ -1,5 +1,5 @@
 -- The words of new variables.
-use Rattle.std.proofs.Common.{◌≡◌, ◌&&◌, ◌<◌, length, get_or, arith, ℕ, Bool, true, cond, List, [], ◌∷◌, Option, Some, None, refl, ap, sym, ◌∙◌}
+use Rattle.std.proofs.Common.{◌≡◌, get_or, ℕ, true, cond, List, [], ◌∷◌, Option, Some, None, refl, ap, sym, ◌∙◌}
 use Rattle.std.proofs.lemmas.Bool.{and_parts}
 use Rattle.std.specs.List.{list_all}
 use Rattle.mpl_ast.specs.declared.class.Item.{Item}
@@ -43,10 +43,6 @@ pub one_declarator : (type : TypeName) (xs : List Declarator) (x : Declarator) �
 one_declarator type [] x one found = cc
 one_declarator type (a ∷ []) x one found = (ap (λ (y : Declarator). y ∷ []) (sym found), ap (λ (y : Declarator). is_first_declarator type y) found ∙ one)
 one_declarator type (a ∷ b ∷ others) x one found = cc
-
-pub one_declared : (type : TypeName) (xs : List Declarator) → is_first_local type xs ≡ true → 0 < length xs
-one_declared type [] one = cc
-one_declared type (a ∷ others) one = omega arith
 
 pub without_dimension : (type : TypeName) (at : At) (name : Name) (dimension : Option Dimension) → is_first_declarator type (Plain at name dimension) ≡ true
     → dimension ≡ None

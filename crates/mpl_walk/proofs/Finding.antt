@@ -1,5 +1,5 @@
 -- Classes and members are found.
-use Rattle.std.proofs.Common.{◌≡◌, ◌&&◌, ℕ, ◌+◌, Bool, true, false, cond, List, ◌∷◌, length, Option, Some, None, refl, ap, sym, ◌∙◌}
+use Rattle.std.proofs.Common.{◌≡◌, ◌&&◌, ℕ, ◌+◌, true, false, cond, List, ◌∷◌, length, Option, Some, None, refl, ap}
 use Rattle.std.proofs.lemmas.Bool.{and_parts}
 use Rattle.std.specs.List.{list_all}
 use Rattle.std.specs.Str.{bytes_eq}
@@ -11,7 +11,6 @@ use Rattle.mpl_ast.specs.declared.class.Kind.TheVariants.{Regular, Persistent}
 use Rattle.mpl_ast.specs.declared.class.ResultType.{ResultType}
 use Rattle.mpl_ast.specs.declared.place.At.{At}
 use Rattle.mpl_ast.specs.declared.place.Name.{Name}
-use Rattle.mpl_ast.specs.declared.program.Declaration.{Declaration}
 use Rattle.mpl_ast.specs.declared.program.Declaration.TheVariants as declaration
 use Rattle.mpl_ast.specs.declared.statement.Block.{Block}
 use Rattle.mpl_ast.specs.declared.statement.TypeName.{TypeName}
@@ -19,8 +18,7 @@ use Rattle.mpl_mean.specs.FirstForm as first
 use Rattle.mpl_mean.specs.FirstForm.{are_ints, is_first_item, is_int_result, is_one_result}
 use Rattle.mpl_mean.specs.Layout as mean
 use Rattle.mpl_mean.specs.Layout.{Class, class_named, classes_from, formals_of, is_regular, member_named, members_from, state_of}
-use Rattle.mpl_walk.specs.declared.lookup.Member.{Member}
-use Rattle.mpl_walk.specs.Found.{is_int_formal, is_part, IsClassOf, IsMember, SkipsClass, SkipsMember, TakesClass, TakesMember}
+use Rattle.mpl_walk.specs.Found.{is_int_formal, is_part, SkipsClass, SkipsMember, TakesClass}
 
 both_regular : (kind : Kind) → first.is_regular kind ≡ true → is_regular kind ≡ true
 both_regular (Regular at) h = refl
@@ -46,9 +44,10 @@ takes_class name at line kind class items part same = λ number id others.
 
 pub skips_class : (name : List ℕ) (at : At) (line : ℕ) (kind : Kind) (class : Name) (items : List Item)
     → bytes_eq class.text name ≡ false → SkipsClass name (declaration.Class at line kind class items)
-skips_class name at line kind class items other = λ number id others.
-    ((number + 1, id + length (members_from id items)),
-    ap (λ b. cond b (Some (class_made number id kind class items)) (class_named name (classes_from (number + 1) (id + length (members_from id items)) others))) other)
+skips_class name at line kind class items other = λ number id others. (
+  (number + 1, id + length (members_from id items)),
+  ap (λ b. cond b (Some (class_made number id kind class items)) (class_named name (classes_from (number + 1) (id + length (members_from id items)) others))) other,
+)
 
 pub skips_function : (name : List ℕ) (at : At) (result : TypeName) (function : Name) (formals : Option Formals) (body : Block)
     → SkipsClass name (declaration.Function at result function formals body)

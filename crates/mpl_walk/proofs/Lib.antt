@@ -10,4 +10,5 @@ pub mod Passing
 pub mod Reading
 pub mod Running
 pub mod Steps
+pub mod Trees
 pub mod Values

@@ -1,5 +1,5 @@
 -- Where `main` stands.
-use Rattle.std.proofs.Common.{◌≡◌, ◌&&◌, ℕ, Bool, true, false, cond, List, [], ◌∷◌, Option, Some, None, refl, ap, sym, ◌∙◌}
+use Rattle.std.proofs.Common.{◌≡◌, ◌&&◌, ℕ, true, cond, List, [], ◌∷◌, Option, Some, None, refl, ap, ◌∙◌}
 use Rattle.std.proofs.lemmas.Bool.{and_parts}
 use Rattle.std.specs.Prelude.{codes}
 use Rattle.std.specs.List.{list_all}
@@ -13,11 +13,10 @@ use Rattle.mpl_ast.specs.declared.place.Name.{Name}
 use Rattle.mpl_ast.specs.declared.program.Declaration.{Declaration}
 use Rattle.mpl_ast.specs.declared.program.Declaration.TheVariants as declaration
 use Rattle.mpl_ast.specs.declared.statement.Block.{Block}
-use Rattle.mpl_ast.specs.declared.statement.Statement.{Statement}
 use Rattle.mpl_ast.specs.declared.statement.TypeName.{TypeName}
 use Rattle.mpl_mean.specs.BodyMeaning.{main_statements, statements_of}
-use Rattle.mpl_mean.specs.FirstForm.{are_first, is_first_statement, is_class, is_int, is_main, is_without_formals}
-use Rattle.mpl_mean.specs.Layout.{Function, formals_of, function_named}
+use Rattle.mpl_mean.specs.FirstForm.{are_first, is_first_statement, is_class, is_int, is_without_formals}
+use Rattle.mpl_mean.specs.Layout.{Function, formals_of}
 use Rattle.mpl_walk.specs.Found.{is_part}
 
 -- a function stands last, and is `main`

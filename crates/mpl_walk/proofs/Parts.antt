@@ -1,5 +1,5 @@
 -- What is built has parts that are built.
-use Rattle.std.proofs.Common.{◌≡◌, ◌&&◌, ℕ, ℤ, true, refl, rules, sym, ◌∙◌}
+use Rattle.std.proofs.Common.{◌≡◌, ◌&&◌, ℕ, true, refl, rules, sym, ◌∙◌}
 use Rattle.std.proofs.lemmas.Bool.{and_parts}
 use Rattle.mpl_ast.specs.declared.expression.Conjunction.{Conjunction}
 use Rattle.mpl_ast.specs.declared.expression.Conjunction as conjunction
@@ -7,17 +7,12 @@ use Rattle.mpl_ast.specs.declared.expression.Equality.{Equality}
 use Rattle.mpl_ast.specs.declared.expression.Equality as equality
 use Rattle.mpl_ast.specs.declared.expression.Expression as expression
 use Rattle.mpl_ast.specs.declared.expression.Place.{Place}
-use Rattle.mpl_ast.specs.declared.expression.Place as place
 use Rattle.mpl_ast.specs.declared.expression.Primary.{Primary}
 use Rattle.mpl_ast.specs.declared.expression.Primary as primary
 use Rattle.mpl_ast.specs.declared.expression.Relation.{Relation}
 use Rattle.mpl_ast.specs.declared.expression.Relation as relation
-use Rattle.mpl_ast.specs.declared.expression.Target.{Target}
 use Rattle.mpl_ast.specs.declared.expression.Unary as unary
-use Rattle.mpl_mean.specs.ExpressionMeaning.{Evaluates, value_of}
-use Rattle.mpl_mean.specs.PlaceMeaning.{read}
-use Rattle.mpl_mean.specs.Store.{give}
-use Rattle.mpl_mean.specs.Values.{int_value}
+use Rattle.mpl_mean.specs.ExpressionMeaning.{value_of}
 use Rattle.mpl_ast.specs.declared.expression.Sum.{Sum}
 use Rattle.mpl_ast.specs.declared.expression.SumOperator.{SumOperator}
 use Rattle.mpl_ast.specs.declared.expression.Sum as sum
@@ -74,11 +69,5 @@ one_unary at inner = search (rules, term.the_lemmas)
 pub one_primary : (at : At) (inner : Primary) → unary_value (unary.OnePrimary at inner) ≡ primary_value inner
 one_primary at inner = search (rules, unary.the_lemmas)
 
-pub one_number : (at : At) (z : ℤ) → primary_value (primary.Number at z) ≡ (λ c. give (int_value z))
-one_number at z = search (rules, primary.the_lemmas)
-
 pub one_place : (at : At) (inner : Place) → primary_value (primary.Read at inner) ≡ place_value inner
 one_place at inner = search (rules, primary.the_lemmas)
-
-pub one_target : (at : At) (target : Target) → place_value (place.Whole at target) ≡ (λ c. read c target)
-one_target at target = search (rules, place.the_lemmas)

@@ -1,8 +1,7 @@
 -- What is passed on.
-use Rattle.std.proofs.Common.{◌≡◌, ◌&&◌, Bool, true, List, [], ◌∷◌, map, Option, Some, None, ℤ, Ok, Err, refl, rules, ap, sym, ◌∙◌}
+use Rattle.std.proofs.Common.{◌≡◌, ◌&&◌, true, List, [], ◌∷◌, map, refl, rules, ap, sym, ◌∙◌}
 use Rattle.std.proofs.lemmas.Bool.{and_parts}
 use Rattle.std.specs.List.{list_all}
-use Rattle.mpl_ast.specs.declared.expression.Expression.{Expression}
 use Rattle.mpl_ast.specs.declared.expression.Target.{Target}
 use Rattle.mpl_ast.specs.declared.flow.Call.{Call}
 use Rattle.mpl_ast.specs.declared.flow.Call as call
@@ -11,44 +10,12 @@ use Rattle.mpl_ast.specs.declared.flow.Flow as flow
 use Rattle.mpl_ast.specs.declared.place.At.{At}
 use Rattle.mpl_ast.specs.declared.place.Name.{Name}
 use Rattle.mpl_value.specs.declared.body.Arg.{Arg}
-use Rattle.mpl_value.specs.declared.known.Trap.{Trap}
 use Rattle.mpl_mean.specs.FirstForm.{is_first_call, is_first_flow, is_variable}
-use Rattle.mpl_mean.specs.CallMeaning.{Passes, at_context, call_on_target, call_value, held_or, pass, passes, whole_name, whole_variable}
+use Rattle.mpl_mean.specs.CallMeaning.{at_context, call_on_target, call_value, passes}
 use Rattle.mpl_mean.specs.Context.{Context}
-use Rattle.mpl_mean.specs.ExpressionMeaning.{value_of}
 use Rattle.mpl_mean.specs.Store.{Store, Doing, variable_named}
-use Rattle.mpl_walk.specs.declared.held.Held.TheVariants as held
-use Rattle.mpl_walk.specs.declared.held.Variable.{Variable}
 use Rattle.mpl_ast.specs.declared.expression.Target.TheVariants as targets
 use Rattle.mpl_walk.proofs.Calling.{on_name}
-use Rattle.mpl_walk.specs.Evaluated.{evaluated, passed}
-use Rattle.mpl_walk.specs.Held.{Stands, variable_held, variables_held}
-
-pub passes_held : (vs : List Variable) (e : Expression) (v : Variable) (c : Context) (s : Store) → Stands vs c s
-    → whole_variable (whole_name e) (variables_held vs) ≡ Some (variable_held v) → pass c e s ≡ passed (Ok v.holds) s
-passes_held vs e v c s stands found =
-    ap (λ all. held_or (whole_variable (whole_name e) all) (value_of e c) s) stands.variables ∙ ap (λ one. held_or one (value_of e c) s) found
-
-pub passes_word : (vs : List Variable) (e : Expression) (word : Option ℤ) (c : Context) (s : Store) → Stands vs c s
-    → whole_variable (whole_name e) (variables_held vs) ≡ None → value_of e c s ≡ evaluated (Ok word) s → pass c e s ≡ passed (Ok (held.Know word)) s
-passes_word vs e word c s stands missing gives =
-    ap (λ all. held_or (whole_variable (whole_name e) all) (value_of e c) s) stands.variables
-    ∙ ap (λ one. held_or one (value_of e c) s) missing
-    ∙ and_gives gives where
-      and_gives : value_of e c s ≡ evaluated (Ok word) s → held_or None (value_of e c) s ≡ passed (Ok (held.Know word)) s
-      and_gives g = simp g
-
-pub passes_trap : (vs : List Variable) (e : Expression) (trap : Trap) (c : Context) (s : Store) → Stands vs c s
-    → whole_variable (whole_name e) (variables_held vs) ≡ None → value_of e c s ≡ evaluated (Err trap) s → pass c e s ≡ passed (Err trap) s
-passes_trap vs e trap c s stands missing gives =
-    ap (λ all. held_or (whole_variable (whole_name e) all) (value_of e c) s) stands.variables
-    ∙ ap (λ one. held_or one (value_of e c) s) missing
-    ∙ and_gives gives where
-      and_gives : value_of e c s ≡ evaluated (Err trap) s → held_or None (value_of e c) s ≡ passed (Err trap) s
-      and_gives g = simp g
-
-pub flow_of_expression : (at : At) (e : Expression) (c : Context) → passes (flow.OfExpression at e) c ≡ pass c e
-flow_of_expression at e c = search (rules, flow.the_lemmas)
 
 pub flow_of_call : (at : At) (k : Call) (c : Context) → passes (flow.OfCall at k) c ≡ call_value k c
 flow_of_call at k c = search (rules, flow.the_lemmas)
@@ -65,7 +32,7 @@ call_on_variable at target member flows c =
     let layer : call_value (call.OnTarget at target member flows) c ≡ call_on_target c at.line target member.text (at_context c (map passes flows)) = search (rules, call.the_lemmas) in
     layer ∙ ap (λ (all : List (Doing Arg)). call_on_target c at.line target member.text all) (passed_at c flows)
 
-all_built : (flows : List Flow) → list_all (λ b. b) (map is_first_flow flows) ≡ list_all is_first_flow flows
+pub all_built : (flows : List Flow) → list_all (λ b. b) (map is_first_flow flows) ≡ list_all is_first_flow flows
 all_built [] = refl
 all_built (f ∷ flows) = ap (λ b. is_first_flow f && b) (all_built flows)
 

@@ -1,5 +1,5 @@
 -- Statements, one after another, and the yield.
-use Rattle.std.proofs.Common.{◌≡◌, ◌≢◌, ℕ, zero, suc, ◌+◌, ◌<◌, Bool, true, List, [], ◌∷◌, ◌++◌, map, drop, Option, None, Result, Ok, Err, refl, rules, arith, ap, sym, subst, ◌∙◌}
+use Rattle.std.proofs.Common.{◌≡◌, ℕ, zero, suc, ◌+◌, List, [], ◌∷◌, ◌++◌, map, drop, Option, None, Result, Ok, Err, refl, rules, arith, ap, sym, subst, ◌∙◌}
 use Rattle.std.specs.FinMap.{FinMap}
 use Rattle.std.specs.Ordering.{nat_cmp}
 use Rattle.mpl_ast.specs.declared.expression.Expression.{Expression}
@@ -9,18 +9,13 @@ use Rattle.mpl_ast.specs.declared.program.Program.{Program}
 use Rattle.mpl_ast.specs.declared.statement.Local.{Local}
 use Rattle.mpl_ast.specs.declared.statement.Statement.{Statement}
 use Rattle.mpl_ast.specs.declared.statement.Statement as statement
-use Rattle.mpl_value.specs.declared.body.Arg.{Arg}
-use Rattle.mpl_value.specs.declared.body.BodyEnd.{BodyEnd}
-use Rattle.mpl_value.specs.declared.body.BodyEnd.TheVariants as end
-use Rattle.mpl_value.specs.declared.body.BodyResult.TheVariants as result
 use Rattle.mpl_value.specs.declared.body.BodyStart.{BodyStart}
 use Rattle.mpl_value.specs.declared.body.MemberId.{MemberId}
-use Rattle.mpl_value.specs.declared.body.Yield.{Yield}
 use Rattle.mpl_value.specs.declared.known.Known.{Known}
-use Rattle.mpl_mean.specs.BodyMeaning.{below_at, body_of, context_with, main_statements, main_yield, run, store_with, yield_of, yield_with}
+use Rattle.mpl_mean.specs.BodyMeaning.{below_at, body_of, context_with, main_statements, main_yield, run, store_with, yield_of}
 use Rattle.mpl_mean.specs.Context.{Context}
 use Rattle.mpl_mean.specs.StatementMeaning.{declares_all, does, line_of, values_of}
-use Rattle.mpl_mean.specs.Store.{Store, Outcome, Goes, Ends, Doing, and_then, declare, give, in_turn, printed, spend}
+use Rattle.mpl_mean.specs.Store.{Store, Outcome, Goes, Doing, and_then, declare, give, in_turn, printed}
 use Rattle.mpl_mean.specs.Values.{Value}
 use Rattle.mpl_mean.specs.Store.{Variable as Meant}
 use Rattle.mpl_walk.specs.declared.held.Variable.{Variable}
@@ -28,7 +23,7 @@ use Rattle.mpl_walk.specs.declared.setting.Progress.{Progress}
 use Rattle.mpl_walk.specs.declared.stop.Stop.{Stop}
 use Rattle.mpl_walk.specs.declared.stop.Stop.TheVariants as stop
 use Rattle.mpl_walk.specs.Held.{Stands, Whole, variable_held, variables_held}
-use Rattle.mpl_walk.specs.Runs.{Comes, Fits, prints, stopped, store_at, with_turns}
+use Rattle.mpl_walk.specs.Runs.{Comes, Fits, prints, stopped, store_at}
 
 -- the context of `main`
 abbrev pub main_context : List Declaration → ℕ → FinMap nat_cmp Known → ℕ → Context

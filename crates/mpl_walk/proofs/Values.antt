@@ -1,20 +1,16 @@
 -- The values of operations.
 use Rattle.std.proofs.Common.{◌≡◌, ℕ, ℤ, Option, Result, Ok, Err, refl, rules, ap, ◌∙◌}
-use Rattle.mpl_ast.specs.declared.expression.Sum.{Sum}
-use Rattle.mpl_ast.specs.declared.expression.Sum as sum
-use Rattle.mpl_ast.specs.declared.expression.SumOperator.{SumOperator}
 use Rattle.mpl_ast.specs.declared.expression.Term.{Term}
 use Rattle.mpl_ast.specs.declared.expression.Term as term
 use Rattle.mpl_ast.specs.declared.expression.TermOperator.{TermOperator}
 use Rattle.mpl_ast.specs.declared.expression.Unary.{Unary}
 use Rattle.mpl_ast.specs.declared.place.At.{At}
 use Rattle.mpl_mean.specs.Context.{Context}
-use Rattle.mpl_mean.specs.ExpressionMeaning.{Evaluates, arithmetic_of, sum_operation, term_operation}
+use Rattle.mpl_mean.specs.ExpressionMeaning.{Evaluates, arithmetic_of, term_operation}
 use Rattle.mpl_mean.specs.Store.{Store, and_then, computed, give}
 use Rattle.mpl_mean.specs.Values.{first_word, int_value, word_of}
-use Rattle.mpl_value.specs.declared.known.Trap.{Trap}
 use Rattle.mpl_value.specs.declared.known.TrapKind.{TrapKind}
-use Rattle.mpl_walk.specs.Evaluated.{evaluated, on_line, sum_value, term_value, unary_value}
+use Rattle.mpl_walk.specs.Evaluated.{evaluated, on_line, term_value, unary_value}
 use Rattle.mpl_walk.specs.Held.{words_held}
 
 computed_value : (line : ℕ) (outcome : Result ℤ TrapKind) (s : Store)
@@ -29,21 +25,6 @@ arithmetic_value line operator left right a b c s l r =
     ap (λ outcome. and_then outcome (λ x. λ t. and_then (right c t) (λ y. λ u. and_then (computed line (operator (word_of x) (word_of y)) u) (λ z. give (int_value z))))) l
     ∙ ap (λ outcome. and_then outcome (λ y. λ u. and_then (computed line (operator (first_word (words_held a)) (word_of y)) u) (λ z. give (int_value z)))) r
     ∙ computed_value line (operator (first_word (words_held a)) (first_word (words_held b))) s
-
-pub left_stops : (line : ℕ) (operator : ℤ → ℤ → Result ℤ TrapKind) (left right : Evaluates) (trap : Trap) (c : Context) (s : Store)
-    → left c s ≡ evaluated (Err trap) s → arithmetic_of line operator left right c s ≡ evaluated (Err trap) s
-left_stops line operator left right trap c s l =
-    ap (λ outcome. and_then outcome (λ x. λ t. and_then (right c t) (λ y. λ u. and_then (computed line (operator (word_of x) (word_of y)) u) (λ z. give (int_value z))))) l
-
-pub right_stops : (line : ℕ) (operator : ℤ → ℤ → Result ℤ TrapKind) (left right : Evaluates) (a : Option ℤ) (trap : Trap) (c : Context) (s : Store)
-    → left c s ≡ evaluated (Ok a) s → right c s ≡ evaluated (Err trap) s → arithmetic_of line operator left right c s ≡ evaluated (Err trap) s
-right_stops line operator left right a trap c s l r =
-    ap (λ outcome. and_then outcome (λ x. λ t. and_then (right c t) (λ y. λ u. and_then (computed line (operator (word_of x) (word_of y)) u) (λ z. give (int_value z))))) l
-    ∙ ap (λ outcome. and_then outcome (λ y. λ u. and_then (computed line (operator (first_word (words_held a)) (word_of y)) u) (λ z. give (int_value z)))) r
-
-pub sum_layer : (at : At) (line : ℕ) (left : Sum) (operator : SumOperator) (right : Term)
-    → sum_value (sum.Add at line left operator right) ≡ arithmetic_of line (sum_operation operator) (sum_value left) (term_value right)
-sum_layer at line left operator right = search (rules, sum.the_lemmas)
 
 pub term_layer : (at : At) (line : ℕ) (left : Term) (operator : TermOperator) (right : Unary)
     → term_value (term.Multiply at line left operator right) ≡ arithmetic_of line (term_operation operator) (term_value left) (unary_value right)

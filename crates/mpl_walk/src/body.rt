@@ -21,10 +21,10 @@ use crate::lookup::{class_items, main_statements};
 use crate::print::print_line;
 use crate::setting::{Progress, Setting, spend};
 use crate::stop::Stop;
+use mpl_ast::Name;
 use mpl_ast::expression::Expression;
 use mpl_ast::flow::Flow;
 use mpl_ast::program::{Declaration, Program};
-use mpl_ast::Name;
 use mpl_ast::statement::{Declarator, Local, Statement, TypeName};
 use mpl_value::{BodyEnd, BodyResult, BodyStart, Bytes, Calls, NoMemory, Replies, Words, Yield};
 use std::alloc::Global;
@@ -148,11 +148,7 @@ fn run<'a>(
 }
 
 /// All arguments are evaluated before anything is printed.
-fn print(
-    setting: &Setting,
-    arguments: &[Expression],
-    progress: &mut Progress,
-) -> Result<(), Stop>
+fn print(setting: &Setting, arguments: &[Expression], progress: &mut Progress) -> Result<(), Stop>
     requires built { list_all is_first_expression arguments.now ≡ true }
     requires whole { Whole setting.now.declarations.now progress.old.variables.items }
     ensures turns { progress.new.turns ≡ progress.old.turns }

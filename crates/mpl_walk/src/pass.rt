@@ -18,11 +18,7 @@ use mpl_value::{Listed, Trap};
 use std::alloc::Global;
 
 /// What arguments pass on, from left to right up to the first trap of an evaluation.
-pub fn pass_all(
-    alloc: Global,
-    variables: &[Variable],
-    flows: &[Flow],
-) -> Result<Listed<Held>, Stop>
+pub fn pass_all(alloc: Global, variables: &[Variable], flows: &[Flow]) -> Result<Listed<Held>, Stop>
     requires { list_all is_first_flow flows.now ≡ true }
     ensures { (budget : ℕ) (c : Context) (s : Store) → Stands variables.now c s → Comes budget (map arg_held) (all_of (map (λ flow. passes flow c) flows.now) s) s result }
 {
@@ -60,10 +56,7 @@ fn pass_expression(variables: &[Variable], expression: &Expression) -> Result<He
 }
 
 /// The variable that an expression is, if it is one.
-fn whole_variable<'a>(
-    variables: &[Variable<'a>],
-    expression: &Expression,
-) -> Option<Variable<'a>>
+fn whole_variable<'a>(variables: &[Variable<'a>], expression: &Expression) -> Option<Variable<'a>>
     ensures { MatchOption result (whole_variable (whole_name expression.now) (variables_held variables.now) ≡ None) (λ v. whole_variable (whole_name expression.now) (variables_held variables.now) ≡ Some (variable_held v)) }
 {
     let name = whole_name(expression)?;

@@ -1,4 +1,4 @@
-use Rattle.std.proofs.Common.{◌≡◌, List, map, sym, ap, subst, ◌∙◌}
+use Rattle.std.proofs.Common.{List, map, sym, ap, subst, ◌∙◌}
 use Rattle.mpl_ast.specs.declared.statement.Declarator.{Declarator}
 use Rattle.mpl_mean.specs.FirstForm.{is_first_local}
 use Rattle.mpl_mean.specs.StatementMeaning.{declares}
@@ -13,7 +13,7 @@ declare_one-requires c =
     let type = c.args.local.now.type_name in
     let xs = c.as_slice-declarators.result.now in
     let one = one_declarator type xs c.index-declarators-0.result (ap (λ all. is_first_local type all) c.as_slice-declarators.ensures ∙ c.requires.built) c.index-declarators-0.is in
-    record { built = one.1; parts = c.requires.parts; within = c.requires.within; whole = c.requires.whole; }
+    record { built = one.1; parts = c.requires.parts; within = c.requires.within; whole = c.requires.whole }
 
 pub returns-clause-runs : goal.returns-clause-runs
 returns-clause-runs c = λ context s fits.

@@ -1,4 +1,4 @@
-use Rattle.std.proofs.Common.{◌≡◌, sym, ap, subst, ◌∙◌}
+use Rattle.std.proofs.Common.{sym, ap, subst, ◌∙◌}
 use Rattle.mpl_ast.specs.declared.statement.Declarator.TheVariants.{Plain}
 use Rattle.mpl_mean.specs.FirstForm.{is_first_declarator}
 use Rattle.mpl_mean.specs.StatementMeaning.{declares}

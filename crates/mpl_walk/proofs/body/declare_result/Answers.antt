@@ -1,4 +1,4 @@
-use Rattle.std.proofs.Common.{◌≡◌, List, None, refl, sym, ap, subst, ◌∙◌}
+use Rattle.std.proofs.Common.{sym, ap, subst, ◌∙◌}
 use Rattle.mpl_mean.specs.CallMeaning.{passes}
 use Rattle.mpl_mean.specs.Store.{and_then, declare}
 use Rattle.mpl_walk.specs.Held.{Whole, arg_held}

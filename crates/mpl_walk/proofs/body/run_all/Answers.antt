@@ -1,4 +1,4 @@
-use Rattle.std.proofs.Common.{◌≡◌, ◌+◌, ◌∷◌, map, drop, arith, refl, sym, ap, ◌∙◌}
+use Rattle.std.proofs.Common.{map, arith, refl, sym, ap, ◌∙◌}
 use Rattle.std.proofs.lemmas.Bool.{and_parts}
 use Rattle.std.specs.List.{list_all}
 use Rattle.mpl_mean.specs.FirstForm.{is_first_statement}
@@ -23,7 +23,7 @@ run-requires c =
     }
 
 pub loop-statement-init : goal.loop-statement-init
-loop-statement-init c = record { built = c.requires.built; within = c.requires.within; whole = c.requires.whole; left = λ context s fits. refl; }
+loop-statement-init c = record { built = c.requires.built; within = c.requires.within; whole = c.requires.whole; left = λ context s fits. refl }
 
 pub loop-statement-preserved : goal.loop-statement-preserved
 loop-statement-preserved c =

@@ -1,4 +1,4 @@
-use Rattle.std.proofs.Common.{◌≡◌, ℕ, [], ◌∷◌, false, None, pos, ap, sym, subst, ◌∙◌}
+use Rattle.std.proofs.Common.{ℕ, [], ◌∷◌, false, None, pos, ap, sym, subst, ◌∙◌}
 use Rattle.mpl_ast.specs.declared.statement.TypeName.{TypeName}
 use Rattle.mpl_mean.specs.Layout.{class_named, classes_of, words_of}
 use Rattle.mpl_mean.specs.PlaceMeaning.{is_bool}

@@ -1,4 +1,4 @@
-use Rattle.std.proofs.Common.{◌≡◌, ◌+◌, ◌∷◌, List, None, map, drop, arith, sym, ap, ◌∙◌}
+use Rattle.std.proofs.Common.{◌+◌, ◌∷◌, List, None, map, drop, arith, sym, ap, ◌∙◌}
 use Rattle.std.proofs.lemmas.List.{at_drop_more}
 use Rattle.mpl_mean.specs.CallMeaning.{leftmost_trap}
 use Rattle.mpl_walk.specs.declared.held.Held.{Held}

@@ -1,4 +1,4 @@
-use Rattle.std.proofs.Common.{◌≡◌, ℕ, map, refl, sym, ap, subst, ◌∙◌}
+use Rattle.std.proofs.Common.{ℕ, map, sym, ap, subst, ◌∙◌}
 use Rattle.mpl_mean.specs.CallMeaning.{known_words, leftmost_trap, passes, regular_call}
 use Rattle.mpl_mean.specs.Store.{spend}
 use Rattle.mpl_walk.specs.Held.{arg_held}
@@ -47,8 +47,8 @@ returns-clause-gives c = λ context s found fits stands member.
     let mid = with_turns s c.spend.new.turns in
     let hs = c.in_ok-arguments.arguments in
     let calls = call_fires context found flows hs t mid
-        (c.in_ok-arguments.ensures budget context t (stands_with _ context s c.args.turns.now stands))
-        (ap (λ (n : ℕ). spend n t) fits.turns ∙ c.in_ok-spend.ensures.spends s)
-        (ap (λ all. leftmost_trap (map arg_held all)) (sym c.as_slice.ensures) ∙ sym c.leftmost_trap.ensures ∙ c.in-None.is) in
+    (c.in_ok-arguments.ensures budget context t (stands_with _ context s c.args.turns.now stands))
+    (ap (λ (n : ℕ). spend n t) fits.turns ∙ c.in_ok-spend.ensures.spends s)
+    (ap (λ all. leftmost_trap (map arg_held all)) (sym c.as_slice.ensures) ∙ sym c.leftmost_trap.ensures ∙ c.in-None.is) in
     let here = calls ∙ ap (λ all. context.below.regular found (known_words (map arg_held all)) mid) (sym c.as_slice-in-None.ensures) in
     subst (λ outcome. Comes budget arg_held outcome (with_turns s c.fire.new.turns) c.fire.result) (sym here) (c.fire.ensures.gives context s found fits member)

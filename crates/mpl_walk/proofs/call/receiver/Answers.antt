@@ -1,6 +1,5 @@
-use Rattle.std.proofs.Common.{◌≡◌, List, Option, Some, None, MatchOption, ap, sym, subst, ◌∙◌}
+use Rattle.std.proofs.Common.{List, Option, Some, None, MatchOption, ap, sym, subst, ◌∙◌}
 use Rattle.mpl_ast.specs.declared.program.Declaration.{Declaration}
-use Rattle.mpl_ast.specs.declared.statement.TypeName.{TypeName}
 use Rattle.mpl_mean.specs.CallMeaning.{call_of_member, regular_call}
 use Rattle.mpl_mean.specs.Layout.{class_named, class_of_type, classes_of}
 use Rattle.mpl_walk.specs.Found.{IsClassOf}
@@ -33,13 +32,13 @@ returns-in_ok-items-in-Named-clause-receives c = λ context s stands same line a
     let v = c.in_ok-variable.variable in
     let items = c.in_ok-items-in-Named.items.now in
     let class =
-        ap (λ t. class_of_type context.declarations t) c.in-Named.is
-        ∙ ap (λ (ds : List Declaration). class_named c.in-Named.class.text (classes_of ds)) same
-        ∙ ap (λ n. class_named n (classes_of c.args.declarations.now)) (sym c.as_slice.ensures) in
+    ap (λ t. class_of_type context.declarations t) c.in-Named.is
+    ∙ ap (λ (ds : List Declaration). class_named c.in-Named.class.text (classes_of ds)) same
+    ∙ ap (λ n. class_named n (classes_of c.args.declarations.now)) (sym c.as_slice.ensures) in
     let k : IsClassOf items (class_of_type context.declarations v.type_name.now) = subst (IsClassOf items) (sym class) (c.in_ok-items-in-Named.ensures 0 0) in
     let called =
-        on_found c.args.variables.now context s line c.args.name.now c.args.member.now arguments v stands c.in_ok-variable.ensures.found
-        ∙ on_class context line c.args.name.now c.args.member.now arguments v items k in
+    on_found c.args.variables.now context s line c.args.name.now c.args.member.now arguments v stands c.in_ok-variable.ensures.found
+    ∙ on_class context line c.args.name.now c.args.member.now arguments v items k in
     match_map c.member_of.result _ _ _ _ (c.member_of.ensures k.id)
     (λ none. called ∙ ap (λ m. call_of_member m (λ m. regular_call context m arguments)) none)
     (λ m found. (found.0, called ∙ ap (λ m. call_of_member m (λ m. regular_call context m arguments)) found.1, found.2))

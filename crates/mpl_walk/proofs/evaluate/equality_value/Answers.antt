@@ -1,5 +1,4 @@
 use Rattle.std.proofs.Common.{ap, ◌∙◌}
-use Rattle.mpl_mean.specs.Context.{Context}
 use Rattle.mpl_mean.specs.ExpressionMeaning.{Evaluates}
 use Rattle.mpl_walk.specs.Evaluated.{equality_value}
 use Rattle.mpl_walk.proofs.Parts.{one_relation}

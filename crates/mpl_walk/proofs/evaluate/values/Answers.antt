@@ -1,4 +1,4 @@
-use Rattle.std.proofs.Common.{◌≡◌, ◌+◌, ◌∷◌, map, drop, arith, rules, sym, ap, ◌∙◌}
+use Rattle.std.proofs.Common.{map, arith, rules, sym, ap, ◌∙◌}
 use Rattle.std.proofs.lemmas.Bool.{and_parts}
 use Rattle.std.specs.List.{list_all}
 use Rattle.mpl_mean.specs.FirstForm.{is_first_expression}

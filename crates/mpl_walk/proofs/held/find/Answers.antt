@@ -1,7 +1,6 @@
-use Rattle.std.proofs.Common.{◌≡◌, ℕ, ◌+◌, ◌∷◌, List, true, false, drop, arith, ap, sym, subst, ◌∙◌}
+use Rattle.std.proofs.Common.{◌≡◌, ◌+◌, true, false, drop, arith, ap, subst, ◌∙◌}
 use Rattle.std.specs.Str.{bytes_eq}
 use Rattle.mpl_mean.specs.Store.{variable_named}
-use Rattle.mpl_walk.specs.declared.held.Variable.{Variable}
 use Rattle.mpl_walk.specs.Held.{Whole, variables_held}
 use Rattle.mpl_walk.proofs.Lists.{next_left, none_left}
 use Rattle.mpl_walk.proofs.Reading.{found_here, found_later}

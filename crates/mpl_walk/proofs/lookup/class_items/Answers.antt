@@ -1,4 +1,4 @@
-use Rattle.std.proofs.Common.{◌≡◌, ℕ, ◌+◌, ◌∷◌, List, true, drop, arith, refl, ap, sym, subst, ◌∙◌}
+use Rattle.std.proofs.Common.{◌+◌, List, drop, arith, refl, ap, sym, subst, ◌∙◌}
 use Rattle.std.proofs.lemmas.Bool.{and_parts}
 use Rattle.std.specs.List.{list_all}
 use Rattle.mpl_ast.specs.declared.program.Declaration.{Declaration}
@@ -8,7 +8,7 @@ use Rattle.mpl_walk.proofs.Lists.{next_left, none_left}
 use Rattle.mpl_walk.proofs.lookup.class_items.Goals as goal
 
 pub loop-declaration-init : goal.loop-declaration-init
-loop-declaration-init c = record { parts = c.requires; found = λ number id. ((number, id), refl); }
+loop-declaration-init c = record { parts = c.requires; found = λ number id. ((number, id), refl) }
 
 pub items_if_named-requires : goal.items_if_named-requires
 items_if_named-requires c =

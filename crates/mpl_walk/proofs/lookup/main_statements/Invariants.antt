@@ -1,5 +1,4 @@
 use Rattle.std.proofs.Common.{◌≡◌, true, drop}
-use Rattle.std.specs.Prelude.{codes}
 use Rattle.mpl_mean.specs.FirstForm.{are_first}
 use Rattle.mpl_mean.specs.BodyMeaning.{main_statements}
 use Rattle.mpl_walk.proofs.lookup.main_statements.Given as goal

@@ -1,4 +1,4 @@
-use Rattle.std.proofs.Common.{◌≡◌, ℕ, ◌+◌, ◌∷◌, List, true, drop, arith, refl, ap, sym, ◌∙◌}
+use Rattle.std.proofs.Common.{◌+◌, List, drop, arith, refl, ap, sym, ◌∙◌}
 use Rattle.std.proofs.lemmas.Bool.{and_parts}
 use Rattle.std.specs.List.{list_all}
 use Rattle.mpl_ast.specs.declared.class.Item.{Item}
@@ -8,7 +8,7 @@ use Rattle.mpl_walk.proofs.Lists.{next_left, none_left}
 use Rattle.mpl_walk.proofs.lookup.member_of.Goals as goal
 
 pub loop-item-init : goal.loop-item-init
-loop-item-init c = record { built = c.requires; found = λ id. (id, refl); }
+loop-item-init c = record { built = c.requires; found = λ id. (id, refl) }
 
 pub member_if_named-requires : goal.member_if_named-requires
 member_if_named-requires c =
