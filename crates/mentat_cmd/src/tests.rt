@@ -44,6 +44,9 @@ fn run(alloc: Global, source: &str) -> Result<Answer, NoMemory> {
     command(alloc, &["run", "a.mpl"], source.as_bytes(), out)
 }
 
+/// A class of three members, and `main` with these statements.
+const CLASS: &str = "regular mentat class calc {\n  int sq(int x) { rtf(x * x); }\n  int add(int x, int y) { rtf(x + y); }\n  int one() { rtf(1); }\n};\n";
+
 #[test]
 fn programs_run(rt: HostRuntime) -> Result<(), Fail> {
     let overflow = "int main() {\nprint(1);\nprint(9223372036854775807 + 1);\nprint(2);\n}";
@@ -77,6 +80,68 @@ fn programs_run(rt: HostRuntime) -> Result<(), Fail> {
     Ok(())
 }
 
+/// A turn for `main`, one for each call, and one for each body of a member.
+#[test]
+fn calls_run(rt: HostRuntime) -> Result<(), Fail> {
+    let sum = Trap {
+        kind: TrapKind::Overflow,
+        line: 3,
+    };
+    let product = Trap {
+        kind: TrapKind::Overflow,
+        line: 2,
+    };
+    for (statements, status, text, turns) in [
+        (
+            "calc w; int a = w.sq(3); int b = w.sq(4); print(a + b);",
+            Status::Done,
+            "25\n",
+            5,
+        ),
+        (
+            "calc w; int a = w.sq(3); int c = w.add(a, a); print(c);",
+            Status::Done,
+            "18\n",
+            5,
+        ),
+        (
+            "calc w; int a = w.one(); calc v; int b = v.add(a * 2, 7 - a); print(a, b, a);",
+            Status::Done,
+            "1 8 1\n",
+            5,
+        ),
+        (
+            "calc w; int a = w.add(9223372036854775807, 1); print(7);",
+            Status::Done,
+            "7\n",
+            3,
+        ),
+        (
+            "calc w; int a = w.add(9223372036854775807, 1); print(7); print(a);",
+            Status::Trap(sum),
+            "7\n",
+            3,
+        ),
+        (
+            "calc w; int a = w.add(9223372036854775807, 1); int b = w.sq(9223372036854775807); int c = w.add(b, a); print(c);",
+            Status::Trap(product),
+            "",
+            6,
+        ),
+    ] {
+        let mut source = Vec::new(rt.alloc());
+        source.extend_from_slice(CLASS.as_bytes())?;
+        source.extend_from_slice(b"int main() { ")?;
+        source.extend_from_slice(statements.as_bytes())?;
+        source.extend_from_slice(b" }")?;
+        let out = MemSink::new(rt.alloc(), 10000, Words::new(rt.alloc()));
+        let run = command(rt.alloc(), &["run", "a.mpl"], source.as_slice(), out)?;
+        assert_eq!(rt; run.ending, Ending { status, turns }, "{statements}");
+        assert_eq!(rt; run.out.written().as_slice(), text.as_bytes(), "{statements}");
+    }
+    Ok(())
+}
+
 #[test]
 fn other_sources_are_unbuilt(rt: HostRuntime) -> Result<(), Fail> {
     for source in [
@@ -95,6 +160,28 @@ fn other_sources_are_unbuilt(rt: HostRuntime) -> Result<(), Fail> {
         "bool main() { }",
         "int main() { } int main() { }",
         "int main() { print(1);",
+        "int main() { calc w }",
+        "int main() { calc w, v; }",
+        "int main() { calc w[2]; }",
+        "int main() { int a; }",
+        "int main() { int a = 1; }",
+        "int main() { int a = w.f(1; }",
+        "int main() { int a = w.f(1,); }",
+        "int main() { int a = w.f(g.h()); }",
+        "int main() { w.f(1); }",
+        "int main() { print(a.b); }",
+        "int main() { print(f(1)); }",
+        "persistent mentat class c { }; int main() { }",
+        "regular mentat class c { } int main() { }",
+        "regular mentat class c { int x; }; int main() { }",
+        "regular mentat class c { void f() { rtf(1); } }; int main() { }",
+        "regular mentat class c { int f() { } }; int main() { }",
+        "regular mentat class c { int f() { rtf(1); rtf(1); } }; int main() { }",
+        "regular mentat class c { int f(int) { rtf(1); } }; int main() { }",
+        "regular mentat class c { int f(int x,) { rtf(1); } }; int main() { }",
+        "regular mentat class c { int f(bool x) { rtf(1); } }; int main() { }",
+        "int main() { } regular mentat class c { };",
+        "regular mentat cl",
     ] {
         let run = run(rt.alloc(), source)?;
         let ending = Ending {
@@ -171,6 +258,8 @@ fn each_status_has_its_number(rt: HostRuntime) {
         (Status::Done, 0),
         (Status::Usage, 1),
         (Status::Trap(trap), 3),
+        (Status::Spent, 4),
+        (Status::Stuck, 5),
         (Status::ReadFault, 6),
         (Status::WriteFault, 7),
         (Status::NoMemory, 9),
