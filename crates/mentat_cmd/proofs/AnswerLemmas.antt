@@ -1,10 +1,10 @@
 -- How a run that ended answers.
-use Rattle.std.proofs.Common.{◌≡◌, ℕ, List, ap, sym, ◌∙◌, subst}
+use Rattle.std.proofs.Common.{◌≡◌, ℕ, List, sym, ◌∙◌, subst}
 use Rattle.mpl_value.specs.declared.body.BodyEnd.{BodyEnd}
 use Rattle.mpl_value.specs.declared.body.Yield.{Yield}
 use Rattle.mentat_cmd.specs.declared.status.Status.{Status}
 use Rattle.mentat_cmd.specs.declared.status.Status.TheVariants as status
-use Rattle.mentat_cmd.specs.Answer.{Answers, Ends, IsStatusOf, IsWritten, LeavesOutput}
+use Rattle.mentat_cmd.specs.Answer.{Answers, Ends, IsStatusOf, LeavesOutput}
 use Rattle.mentat_cmd.specs.Program.{Runs}
 
 pub answers : (source : List ℕ) (y : Yield) (whole front : List ℕ → Type 0) (fault : Type 0) (s : Status) (turns : ℕ)

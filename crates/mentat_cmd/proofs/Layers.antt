@@ -1,5 +1,5 @@
 -- What is said of a statement or a call, by what is said of its parts.
-use Rattle.std.proofs.Common.{◌≡◌, ◌&&◌, Bool, false, List, [], ◌∷◌, map, refl, rules, ap, sym, ◌∙◌}
+use Rattle.std.proofs.Common.{◌≡◌, ◌&&◌, false, List, [], ◌∷◌, map, refl, rules, ap, ◌∙◌}
 use Rattle.std.specs.List.{list_all}
 use Rattle.mpl_ast.specs.declared.expression.Expression.{Expression}
 use Rattle.mpl_ast.specs.declared.expression.Target.{Target}
@@ -16,9 +16,9 @@ use Rattle.mpl_ast.specs.declared.token.Keyword.TheVariants as word
 use Rattle.mpl_ast.specs.declared.token.Mark.TheVariants as m
 use Rattle.mpl_mean.specs.ExpressionText.{expression_text, target_text}
 use Rattle.mpl_mean.specs.FirstForm.{gives_result, is_call, is_first_call, is_first_expression, is_first_flow, is_first_local, is_first_statement, is_variable}
-use Rattle.mpl_mean.specs.Reading.{Reads, ◌>>◌, node, name, mark, keyword, separated, separated_if_any}
+use Rattle.mpl_mean.specs.Reading.{◌>>◌, node, name, mark, keyword, separated, separated_if_any}
 use Rattle.mpl_mean.specs.StatementText.{call_text, flow_text, local_text, statement_text}
-use Rattle.mpl_mean.specs.Weight.{Weighs, ◌⨾◌, plain, bracketed, with_commas, call_weighs, expression_weighs, flow_weighs, local_weighs, statement_weighs, target_weighs}
+use Rattle.mpl_mean.specs.Weight.{◌⨾◌, plain, bracketed, with_commas, call_weighs, expression_weighs, flow_weighs, local_weighs, statement_weighs, target_weighs}
 
 -- ---- statements
 

@@ -1,6 +1,5 @@
 -- Where one token leads.
-use Rattle.std.proofs.Common.{◌≡◌, ℕ, ◌+◌, Bool, true, false, ◌&&◌, ◌==◌, List, [], ◌∷◌, Some, if◌then◌else◌, refl, ap, sym, ◌∙◌, subst}
-use Rattle.std.specs.Str.{bytes_eq}
+use Rattle.std.proofs.Common.{◌≡◌, ℕ, ◌+◌, true, ◌&&◌, ◌==◌, List, ◌∷◌, Some, refl, ap, sym, ◌∙◌}
 use denote.Enum.Bare.{same_true}
 use Rattle.mpl_ast.specs.contracts.token.Keyword as keywords
 use Rattle.mpl_ast.specs.contracts.token.Mark as marks
@@ -16,7 +15,7 @@ use Rattle.mpl_ast.specs.declared.token.TokenKind.TheVariants as kind
 use Rattle.mpl_mean.specs.FirstForm.{is_int, is_named}
 use Rattle.mpl_mean.specs.Reading.{Rest, mark, mark_on, keyword, name, is_mark, is_keyword, is_name}
 use Rattle.mpl_mean.specs.StatementText.{type_text}
-use Rattle.mentat_cmd.specs.Ahead.{first_is, is_any_name}
+use Rattle.mentat_cmd.specs.Ahead.{first_is}
 use Rattle.mentat_cmd.specs.Stages.{Stage, leads, stage_behind}
 use Rattle.mentat_cmd.proofs.Steps.{parts_read, token_taken, mark_taken, and_true}
 

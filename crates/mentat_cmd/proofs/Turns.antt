@@ -1,16 +1,14 @@
 -- Where two kinds of tokens may come, and neither does.
-use Rattle.std.proofs.Common.{◌≡◌, Bool, true, false, ◌||◌, List, [], ◌∷◌, if◌then◌else◌, refl, ap, ◌∙◌}
+use Rattle.std.proofs.Common.{◌≡◌, Bool, true, false, ◌||◌, List, [], ◌∷◌, if◌then◌else◌, refl}
 use Rattle.mpl_ast.specs.declared.token.Keyword.TheVariants as word
 use Rattle.mpl_ast.specs.declared.token.Mark.TheVariants as m
 use Rattle.mpl_ast.specs.declared.token.Token.{Token}
-use Rattle.mpl_ast.specs.declared.token.TokenKind.{TokenKind}
-use Rattle.mpl_ast.specs.declared.token.TokenKind.TheVariants as kind
 use Rattle.mpl_mean.specs.Reading.{is_mark, is_keyword}
-use Rattle.mentat_cmd.specs.Ahead.{first_is, is_any_name, is_operand, begins_local, begins_statement}
-use Rattle.mentat_cmd.specs.Stages.{Stage, BeforeDeclaration, BeforeMentat, BeforeMain, InClass, BeforeMember, BehindClass, InFormals, BeforeFormalType, BeforeFormal, BeforeBody, BehindFormal, InBlock, BehindPrint, BeforeVariable, BeforeResult, AtEnd, BeforeArguments, BeforeOperand, BehindOperand, BehindExpression, BeforeSemicolon, BehindResult, Refused, leads, stage_behind}
+use Rattle.mentat_cmd.specs.Ahead.{first_is, is_any_name, is_operand, begins_statement}
+use Rattle.mentat_cmd.specs.Stages.{Stage, BeforeDeclaration, BeforeMentat, BeforeMain, InClass, BeforeMember, BehindClass, InFormals, BeforeFormalType, BeforeFormal, BeforeBody, BehindFormal, InBlock, BehindPrint, BeforeVariable, BeforeResult, AtEnd, BeforeArguments, BeforeOperand, BehindOperand, BehindExpression, BeforeSemicolon, BehindResult, Refused, leads}
 use Rattle.mentat_cmd.specs.declared.expression.Role.{Role}
 use Rattle.mentat_cmd.specs.declared.expression.Role.TheVariants.{Printed, Passed, Returned}
-use Rattle.mentat_cmd.proofs.Led.{leads-refused, leads-if}
+use Rattle.mentat_cmd.proofs.Led.{leads-if}
 
 leads-neither : (a b : Bool) (s t : Stage) (ts : List Token) → a ≡ false → b ≡ false → leads (if a then s else (if b then t else Refused)) ts ≡ false
 leads-neither true b s t ts h g = absurd cc

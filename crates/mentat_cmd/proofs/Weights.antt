@@ -1,5 +1,5 @@
 -- Nothing in a part of a program weighs too much where nothing in its expressions does.
-use Rattle.std.proofs.Common.{◌≡◌, ℕ, ◌+◌, ◌-◌, Bool, true, false, ◌&&◌, List, [], ◌∷◌, ◌++◌, map, nat_le, Option, Some, None, refl, ap, sym, ◌∙◌, subst, arith}
+use Rattle.std.proofs.Common.{◌≡◌, ℕ, ◌+◌, ◌-◌, Bool, true, false, ◌&&◌, List, [], ◌∷◌, ◌++◌, map, nat_le, Option, Some, None, refl, ap, ◌∙◌, arith}
 use Rattle.std.specs.List.{list_all}
 use Rattle.std.specs.Option.{option_map}
 use Rattle.std.proofs.lemmas.List.Folds.{list_all-append}
@@ -18,7 +18,6 @@ use Rattle.mpl_ast.specs.declared.flow.Flow.{Flow}
 use Rattle.mpl_ast.specs.declared.flow.Flow as flow
 use Rattle.mpl_ast.specs.declared.place.At.{At}
 use Rattle.mpl_ast.specs.declared.place.Name.{Name}
-use Rattle.mpl_ast.specs.declared.program.Declaration.{Declaration}
 use Rattle.mpl_ast.specs.declared.program.Declaration.TheVariants as declaration
 use Rattle.mpl_ast.specs.declared.program.Program.{Program}
 use Rattle.mpl_ast.specs.declared.statement.Block.{Block}
@@ -28,7 +27,7 @@ use Rattle.mpl_ast.specs.declared.statement.Statement.{Statement}
 use Rattle.mpl_ast.specs.declared.statement.Statement as statement
 use Rattle.mpl_ast.specs.declared.statement.TypeName.{TypeName}
 use Rattle.mpl_mean.specs.FirstForm.{is_variable}
-use Rattle.mpl_mean.specs.Weight.{Weighs, no_token, ◌⨾◌, plain, bracketed, with_commas, each_after_comma, in_order, if_any, expression_weighs, flow_weighs, call_weighs, statement_weighs, block_weighs, declarator_weighs, local_weighs, formals_weighs, item_weighs, declaration_weighs, target_weighs, is_light}
+use Rattle.mpl_mean.specs.Weight.{Weighs, no_token, ◌⨾◌, plain, bracketed, with_commas, each_after_comma, in_order, if_any, expression_weighs, flow_weighs, call_weighs, statement_weighs, block_weighs, declarator_weighs, local_weighs, formals_weighs, item_weighs, declaration_weighs, is_light}
 use Rattle.mentat_cmd.specs.Parts.{all_light, is_light_expression, is_light_flow, is_light_call, is_light_declarator, is_light_local, is_light_statement, is_light_block, is_light_item, is_light_declaration}
 use Rattle.mentat_cmd.proofs.Layers.{statement_weighs-print, statement_weighs-declare, statement_weighs-rtf, flow_weighs-call, call_weighs-target}
 

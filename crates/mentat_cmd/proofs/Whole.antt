@@ -1,17 +1,6 @@
 -- The tokens of a part of a program lead from the stage before it to the one behind it.
-use Rattle.std.proofs.Common.{◌≡◌, ℕ, ◌+◌, Bool, true, false, ◌&&◌, ◌==◌, List, [], ◌∷◌, map, codes, Option, Some, None, if◌then◌else◌, refl, ap, sym, ◌∙◌, subst}
-use Rattle.std.proofs.lemmas.Slice.Eq.{bytes_eq-Decides}
+use Rattle.std.proofs.Common.{◌≡◌, ◌+◌, Bool, true, false, List, [], ◌∷◌, map, Some, None, refl, ap, sym, ◌∙◌, subst}
 use Rattle.std.specs.List.{list_all}
-use Rattle.std.specs.Option.{option_map}
-use Rattle.std.specs.Str.{bytes_eq}
-use Rattle.mpl_ast.specs.declared.class.Formal.{Formal}
-use Rattle.mpl_ast.specs.declared.class.Formals.{Formals}
-use Rattle.mpl_ast.specs.declared.class.Item.{Item}
-use Rattle.mpl_ast.specs.declared.class.Item.TheVariants as item
-use Rattle.mpl_ast.specs.declared.class.Kind.{Kind}
-use Rattle.mpl_ast.specs.declared.class.Kind.TheVariants.{Regular, Persistent}
-use Rattle.mpl_ast.specs.declared.class.ResultType.{ResultType}
-use Rattle.mpl_ast.specs.declared.class.ResultType.TheVariants.{Void, Typed}
 use Rattle.mpl_ast.specs.declared.expression.Expression.{Expression}
 use Rattle.mpl_ast.specs.declared.expression.Target.{Target}
 use Rattle.mpl_ast.specs.declared.expression.Target.TheVariants as target
@@ -21,8 +10,6 @@ use Rattle.mpl_ast.specs.declared.flow.Flow.{Flow, out-Flow}
 use Rattle.mpl_ast.specs.declared.flow.Flow.TheVariants as flow
 use Rattle.mpl_ast.specs.declared.place.At.{At}
 use Rattle.mpl_ast.specs.declared.place.Name.{Name}
-use Rattle.mpl_ast.specs.declared.program.Declaration.{Declaration}
-use Rattle.mpl_ast.specs.declared.program.Declaration.TheVariants as declaration
 use Rattle.mpl_ast.specs.declared.statement.Block.{Block}
 use Rattle.mpl_ast.specs.declared.statement.Declarator.{Declarator}
 use Rattle.mpl_ast.specs.declared.statement.Declarator.TheVariants as declarator
@@ -38,24 +25,23 @@ use Rattle.mpl_ast.specs.declared.token.Token.{Token}
 use Rattle.mpl_ast.specs.declared.token.TokenKind.{TokenKind}
 use Rattle.mpl_ast.specs.declared.token.TokenKind.TheVariants as kind
 use Rattle.mpl_mean.specs.ExpressionText.{expression_text, target_text}
-use Rattle.mpl_mean.specs.FirstForm.{are_first, are_ints, gives_result, is_call, is_class, is_first_call, is_first_declarator, is_first_expression, is_first_flow, is_first_item, is_first_local, is_first_statement, is_int, is_int_result, is_main, is_named, is_one_result, is_regular, is_variable, is_without_formals}
-use Rattle.mpl_mean.specs.ProgramText.{declaration_text, formal_text, formals_text, item_text, kind_text, result_text}
-use Rattle.mpl_mean.specs.Reading.{Reads, Rest, ◌>>◌, nothing, node, token, mark, mark_on, keyword, name, is_mark, is_name, each, separated, separated_if_any, after_first, optional}
-use Rattle.mpl_mean.specs.StatementText.{block_of, block_text, call_text, declarator_text, flow_text, local_text, statement_text, type_text}
+use Rattle.mpl_mean.specs.FirstForm.{is_call, is_first_call, is_first_declarator, is_first_expression, is_first_flow, is_first_local, is_first_statement, is_int, is_named, is_variable}
+use Rattle.mpl_mean.specs.Reading.{Reads, Rest, ◌>>◌, nothing, node, mark, mark_on, keyword, name, is_mark, each, separated, separated_if_any, after_first, optional}
+use Rattle.mpl_mean.specs.StatementText.{block_text, call_text, declarator_text, flow_text, local_text, statement_text, type_text}
 use Rattle.mentat_cmd.specs.Ahead.{first_is, is_operand, is_operator}
-use Rattle.mentat_cmd.specs.Parts.{all_light, is_light_block, is_light_call, is_light_declaration, is_light_declarator, is_light_expression, is_light_flow, is_light_item, is_light_local, is_light_statement}
-use Rattle.mentat_cmd.specs.Stages.{Stage, BeforeDeclaration, BeforeMentat, BeforeClassWord, BeforeClassName, BeforeItems, InClass, BehindClass, BeforeMember, BeforeFormals, InFormals, BeforeFormalType, BeforeFormal, BehindFormal, BeforeBody, BeforeRtf, BehindRtf, BehindResult, BeforeBodyEnd, BeforeMain, BeforeOpen, BeforeClose, BeforeBlock, InBlock, BehindPrint, BeforeVariable, BeforeResult, BeforeAssign, BeforeReceiver, BeforeDot, BeforeCalled, BehindCalled, BeforeArguments, BeforeSemicolon, BeforeOperand, BehindExpression, AtEnd, Refused, brackets, leads, stage_behind}
+use Rattle.mentat_cmd.specs.Parts.{all_light, is_light_block, is_light_call, is_light_declarator, is_light_expression, is_light_flow, is_light_local, is_light_statement}
+use Rattle.mentat_cmd.specs.Stages.{Stage, BeforeBlock, InBlock, BehindPrint, BeforeVariable, BeforeResult, BeforeAssign, BeforeReceiver, BeforeDot, BeforeCalled, BehindCalled, BeforeArguments, BeforeSemicolon, BeforeOperand, BehindExpression, AtEnd, brackets, leads, stage_behind}
 use Rattle.mentat_cmd.specs.declared.expression.Role.{Role}
-use Rattle.mentat_cmd.specs.declared.expression.Role.TheVariants.{Printed, Passed, Returned}
-use Rattle.mentat_cmd.proofs.Closing.{closes-flow, closes-flows, closes-first_call, closes-result_flow, closes-declarator, closes-first_local, closes-statements, closes-one_result, closes-items}
-use Rattle.mentat_cmd.proofs.Forms.{first_statement, result_statement, first_flow, call_flow, first_call}
+use Rattle.mentat_cmd.specs.declared.expression.Role.TheVariants.{Printed, Passed}
+use Rattle.mentat_cmd.proofs.Closing.{closes-flows, closes-first_local, closes-statements}
+use Rattle.mentat_cmd.proofs.Forms.{first_statement, first_flow, call_flow, first_call}
 use Rattle.mentat_cmd.proofs.ExpressionTexts.{flow_text-expression, flow_weighs-expression, is_first_flow-expression}
-use Rattle.mentat_cmd.proofs.Layers.{statement_text-print, statement_text-declare, statement_text-rtf, is_first_statement-print, is_first_statement-declare, gives_result-rtf, flow_text-call, is_call-call, call_text-target, is_first_call-target}
-use Rattle.mentat_cmd.proofs.Leading.{mark_is, led-token, led-mark, led-mark_on, led-keyword, led-name, led-int, led-named}
+use Rattle.mentat_cmd.proofs.Layers.{statement_text-print, statement_text-declare, is_first_statement-print, is_first_statement-declare, flow_text-call, is_call-call, call_text-target, is_first_call-target}
+use Rattle.mentat_cmd.proofs.Leading.{mark_is, led-mark, led-mark_on, led-keyword, led-name, led-int, led-named}
 use Rattle.mentat_cmd.proofs.Chains.{led-expression, begins-expression}
 use Rattle.mentat_cmd.proofs.Steps.{parts_read, token_taken, both_read, and_true}
 use Rattle.mentat_cmd.proofs.Turns.{leads-some_arguments}
-use Rattle.mentat_cmd.proofs.Weights.{light-print, light-rtf, light-call, light-call_flow, light-one, light-declare, light-block, light-member, light-class}
+use Rattle.mentat_cmd.proofs.Weights.{light-print, light-call, light-call_flow, light-one, light-declare, light-block}
 
 -- ---- lists
 

@@ -21,20 +21,19 @@ use Rattle.mpl_ast.specs.declared.program.Program.{Program}
 use Rattle.mpl_ast.specs.declared.statement.Block.{Block}
 use Rattle.mpl_ast.specs.declared.statement.Statement.{Statement}
 use Rattle.mpl_ast.specs.declared.statement.Statement.TheVariants as statement
-use Rattle.mpl_ast.specs.declared.statement.TypeName.{TypeName}
 use Rattle.mpl_ast.specs.declared.token.Keyword.TheVariants as word
 use Rattle.mpl_ast.specs.declared.token.Mark.TheVariants as m
 use Rattle.mpl_ast.specs.declared.token.Token.{Token}
-use Rattle.mpl_mean.specs.FirstForm.{are_first, are_ints, gives_result, is_class, is_first_flow, is_first_form, is_first_item, is_first_statement, is_int, is_int_result, is_main, is_one_result, is_regular, is_without_formals}
+use Rattle.mpl_mean.specs.FirstForm.{are_first, are_ints, gives_result, is_class, is_first_form, is_first_item, is_first_statement, is_int, is_int_result, is_main, is_one_result, is_regular}
 use Rattle.mpl_mean.specs.ProgramText.{all_of, declaration_text, formal_text, formals_text, item_text, kind_text, nothing_left, program_text, result_text, spells}
-use Rattle.mpl_mean.specs.Reading.{Reads, Rest, ◌>>◌, nothing, node, mark, mark_on, keyword, name, is_name, each, separated, after_first, optional}
+use Rattle.mpl_mean.specs.Reading.{Reads, Rest, ◌>>◌, nothing, mark, mark_on, keyword, name, is_name, each, separated, after_first, optional}
 use Rattle.mpl_mean.specs.StatementText.{block_of, block_text, flow_text, statement_text, type_text}
 use Rattle.mpl_mean.specs.Weight.{is_light}
-use Rattle.mentat_cmd.specs.Parts.{is_light_block, is_light_declaration, is_light_flow, is_light_item, is_light_statement}
+use Rattle.mentat_cmd.specs.Parts.{is_light_block, is_light_declaration, is_light_item, is_light_statement}
 use Rattle.mentat_cmd.specs.Stages.{Stage, BeforeDeclaration, BeforeMentat, BeforeClassWord, BeforeClassName, BeforeItems, InClass, BehindClass, BeforeMember, BeforeFormals, InFormals, BeforeFormalType, BeforeFormal, BehindFormal, BeforeBody, BeforeRtf, BehindRtf, BehindResult, BeforeBodyEnd, BeforeMain, BeforeOpen, BeforeClose, BeforeBlock, BeforeOperand, BehindExpression, AtEnd, Refused, leads, stage_behind}
 use Rattle.mentat_cmd.specs.declared.expression.Role.TheVariants.{Returned}
 use Rattle.mpl_ast.specs.declared.token.TokenKind.TheVariants as kind
-use Rattle.mentat_cmd.proofs.Closing.{closes-flow, closes-one_result, closes-statements, closes-items, closes-declarations}
+use Rattle.mentat_cmd.proofs.Closing.{closes-flow, closes-one_result, closes-items, closes-declarations}
 use Rattle.mentat_cmd.proofs.Forms.{result_statement}
 use Rattle.mentat_cmd.proofs.Layers.{statement_text-rtf, gives_result-rtf}
 use Rattle.mentat_cmd.proofs.Leading.{led-token, led-mark, led-mark_on, led-keyword, led-name, led-int}
@@ -99,22 +98,22 @@ led-formals (Some fs) r x i h =
 pub led-rtf : (s : Statement) (r x : Rest) → gives_result s ≡ true → is_light_statement 2 s ≡ true → statement_text s r ≡ Some x → leads BeforeRtf r.tokens ≡ leads BeforeBodyEnd x.tokens
 led-rtf s r x b l h =
     result_statement (λ z. gives_result z ≡ true → is_light_statement 2 z ≡ true → statement_text z r ≡ Some x → leads BeforeRtf r.tokens ≡ leads BeforeBodyEnd x.tokens) one s b b l h where
-  one : (at : At) (f : Flow) → gives_result (statement.Rtf at f) ≡ true → is_light_statement 2 (statement.Rtf at f) ≡ true → statement_text (statement.Rtf at f) r ≡ Some x → leads BeforeRtf r.tokens ≡ leads BeforeBodyEnd x.tokens
-  one at f i j g =
-      let bs = sym (gives_result-rtf at f) ∙ i in
-      let ls = sym (light-rtf at f (closes-flow f bs)) ∙ j in
-      let close = mark m.CloseParenthesis in
-      let end = mark m.Semicolon in
-      let start : Rest = record r { next = r.next + 1 } in
-      let p = both_read (keyword word.Rtf) (mark m.OpenParenthesis >> flow_text f >> close >> end) start x (parts_read at (keyword word.Rtf >> mark m.OpenParenthesis >> flow_text f >> close >> end) r x (sym (ap (λ (t : Reads). t r) (statement_text-rtf at f)) ∙ g)) in
-      let q = both_read (mark m.OpenParenthesis) (flow_text f >> close >> end) p.0 x p.2 in
-      let u = both_read (flow_text f) (close >> end) q.0 x q.2 in
-      let v = both_read close end u.0 x u.2 in
-      led-keyword BeforeRtf BehindRtf word.Rtf start p.0 refl p.1
-      ∙ led-mark BehindRtf (BeforeOperand Returned 0) m.OpenParenthesis p.0 q.0 refl q.1
-      ∙ led-flow Returned f q.0 u.0 bs ls u.1 (stops-mark m.CloseParenthesis u.0 v.0 refl v.1)
-      ∙ led-mark (BehindExpression Returned) BehindResult m.CloseParenthesis u.0 v.0 refl v.1
-      ∙ led-mark BehindResult BeforeBodyEnd m.Semicolon v.0 x refl v.2
+      one : (at : At) (f : Flow) → gives_result (statement.Rtf at f) ≡ true → is_light_statement 2 (statement.Rtf at f) ≡ true → statement_text (statement.Rtf at f) r ≡ Some x → leads BeforeRtf r.tokens ≡ leads BeforeBodyEnd x.tokens
+      one at f i j g =
+          let bs = sym (gives_result-rtf at f) ∙ i in
+          let ls = sym (light-rtf at f (closes-flow f bs)) ∙ j in
+          let close = mark m.CloseParenthesis in
+          let end = mark m.Semicolon in
+          let start : Rest = record r { next = r.next + 1 } in
+          let p = both_read (keyword word.Rtf) (mark m.OpenParenthesis >> flow_text f >> close >> end) start x (parts_read at (keyword word.Rtf >> mark m.OpenParenthesis >> flow_text f >> close >> end) r x (sym (ap (λ (t : Reads). t r) (statement_text-rtf at f)) ∙ g)) in
+          let q = both_read (mark m.OpenParenthesis) (flow_text f >> close >> end) p.0 x p.2 in
+          let u = both_read (flow_text f) (close >> end) q.0 x q.2 in
+          let v = both_read close end u.0 x u.2 in
+          led-keyword BeforeRtf BehindRtf word.Rtf start p.0 refl p.1
+          ∙ led-mark BehindRtf (BeforeOperand Returned 0) m.OpenParenthesis p.0 q.0 refl q.1
+          ∙ led-flow Returned f q.0 u.0 bs ls u.1 (stops-mark m.CloseParenthesis u.0 v.0 refl v.1)
+          ∙ led-mark (BehindExpression Returned) BehindResult m.CloseParenthesis u.0 v.0 refl v.1
+          ∙ led-mark BehindResult BeforeBodyEnd m.Semicolon v.0 x refl v.2
 
 led-one_result : (at : At) (line : ℕ) (ss : List Statement) (r x : Rest) → is_one_result ss ≡ true → list_all (is_light_statement 2) ss ≡ true → block_of at line (map statement_text ss) r ≡ Some x → leads BeforeBody r.tokens ≡ leads InClass x.tokens
 led-one_result at line [] r x b l h = absurd cc
@@ -158,8 +157,8 @@ led-item (item.Member at result n fs body) r x b l h =
     ∙ led-mark BeforeFormals InFormals m.OpenParenthesis q.0 u.0 refl u.1
     ∙ led-formals fs u.0 w.0 ints.1 (joined formals close u.0 v.0 w.0 v.1 w.1)
     ∙ led-result_block body w.0 x bs.1 ls w.2 where
-  joined : (a b : Reads) (r y z : Rest) → a r ≡ Some y → b y ≡ Some z → (a >> b) r ≡ Some z
-  joined a b r y z e f = rw e f
+      joined : (a b : Reads) (r y z : Rest) → a r ≡ Some y → b y ≡ Some z → (a >> b) r ≡ Some z
+      joined a b r y z e f = rw e f
 
 pub led-items : (items : List Item) (r x : Rest) → list_all is_first_item items ≡ true → list_all is_light_item items ≡ true → each (map item_text items) r ≡ Some x → leads InClass r.tokens ≡ leads InClass x.tokens
 led-items = led-all is_first_item is_light_item item_text InClass led-item

@@ -1,14 +1,11 @@
 -- What a command answers, and why.
 use Rattle.std.specs.Prelude.{◌≡◌, ℕ, ◌<◌, List, Option, Some, None, length, IfSome, IsSome}
-use Rattle.mentat_io.specs.Causes.{Rose}
 use Rattle.mentat_io.specs.Shelf.{Files, IsStartOf, file_named}
 use Rattle.mpl_value.specs.declared.body.BodyEnd.{BodyEnd}
 use Rattle.mpl_value.specs.declared.body.BodyEnd.TheVariants as end
 use Rattle.mpl_value.specs.declared.body.Yield.{Yield}
-use Rattle.mentat_cmd.specs.declared.status.Ending.{Ending}
 use Rattle.mentat_cmd.specs.declared.status.Status.{Status}
 use Rattle.mentat_cmd.specs.declared.status.Status.TheVariants as status
-use Rattle.mentat_cmd.specs.Output.{Appends, AppendsFront}
 use Rattle.mentat_cmd.specs.Program.{Runs, SpellsNothing}
 
 -- the greatest length of a source

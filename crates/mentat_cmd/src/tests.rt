@@ -45,7 +45,8 @@ fn run(alloc: Global, source: &str) -> Result<Answer, NoMemory> {
 }
 
 /// A class of three members, and `main` with these statements.
-const CLASS: &str = "regular mentat class calc {\n  int sq(int x) { rtf(x * x); }\n  int add(int x, int y) { rtf(x + y); }\n  int one() { rtf(1); }\n};\n";
+const CLASS: &str =
+    "regular mentat class calc {\n  int sq(int x) { rtf(x * x); }\n  int add(int x, int y) { rtf(x + y); }\n  int one() { rtf(1); }\n};\n";
 
 #[test]
 fn programs_run(rt: HostRuntime) -> Result<(), Fail> {
@@ -137,7 +138,11 @@ fn calls_run(rt: HostRuntime) -> Result<(), Fail> {
         let out = MemSink::new(rt.alloc(), 10000, Words::new(rt.alloc()));
         let run = command(rt.alloc(), &["run", "a.mpl"], source.as_slice(), out)?;
         assert_eq!(rt; run.ending, Ending { status, turns }, "{statements}");
-        assert_eq!(rt; run.out.written().as_slice(), text.as_bytes(), "{statements}");
+        assert_eq!(rt;
+            run.out.written().as_slice(),
+            text.as_bytes(),
+            "{statements}"
+        );
     }
     Ok(())
 }

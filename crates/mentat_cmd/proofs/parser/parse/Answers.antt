@@ -1,6 +1,5 @@
 use Rattle.std.proofs.Common.{◌≡◌, ℕ, suc, ◌==◌, ◌≤◌, ◌∙◌, List, [], ◌∷◌, length, true, false, refl, ap, sym, subst, arith}
 use Rattle.std.proofs.lemmas.Bool.Decides.{nat_tests}
-use Rattle.mpl_ast.specs.declared.program.Declaration.{Declaration}
 use Rattle.mpl_ast.specs.declared.program.Program.{Program}
 use Rattle.mpl_ast.specs.declared.token.Token.{Token}
 use Rattle.mpl_mean.specs.ProgramText.{spells}
@@ -8,7 +7,6 @@ use Rattle.mpl_mean.specs.Reading.{Rest}
 use Rattle.mentat_cmd.specs.Reader.{rest_of}
 use Rattle.mentat_cmd.specs.Stages.{BeforeDeclaration, leads}
 use Rattle.mentat_cmd.proofs.Closing.{closes-declarations}
-use Rattle.mentat_cmd.proofs.Leading.{led-begun}
 use Rattle.mentat_cmd.proofs.Weights.{light-program}
 use Rattle.mentat_cmd.proofs.WholeClasses.{led-declarations, no_program, leads-more, program-spells}
 use Rattle.mentat_cmd.proofs.parser.parse.Goals as goal

@@ -1,5 +1,4 @@
-use Rattle.std.proofs.Common.{rules, ◌≡◌, ◌≤◌, [], length, ℕ, ◌<◌, true, ap, ◌∙◌, nat_cmp}
-use native.Mathlib.Omega.{arith}
+use Rattle.std.proofs.Common.{rules, ◌≡◌, [], ℕ, ap, ◌∙◌, nat_cmp}
 use Rattle.std.specs.FinMap.{FinMap, empty}
 use Rattle.mpl_ast.specs.declared.program.Program.{Program}
 use Rattle.mpl_mean.specs.BodyMeaning.{yield_of}
@@ -7,7 +6,7 @@ use Rattle.mpl_mean.specs.DirectRun.{direct_run, main_start}
 use Rattle.mpl_value.specs.declared.body.BodyStart.{BodyStart}
 use Rattle.mpl_value.specs.declared.body.Yield.{Yield}
 use Rattle.mpl_value.specs.declared.known.Known.{Known}
-use Rattle.mentat_cmd.specs.Program.{Ran, Runs, Spells}
+use Rattle.mentat_cmd.specs.Program.{Spells}
 use Rattle.mentat_cmd.proofs.run.run.Goals as goal
 
 -- from its own start and without replies a program's yield is its direct run

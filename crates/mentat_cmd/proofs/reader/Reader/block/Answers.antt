@@ -1,4 +1,4 @@
-use Rattle.std.proofs.Common.{◌≡◌, ◌∙◌, false, true, refl, ap, sym, arith}
+use Rattle.std.proofs.Common.{◌≡◌, ◌∙◌, false, refl, ap, sym, arith}
 use Rattle.mentat_cmd.proofs.Closing.{closes-statements}
 use Rattle.mentat_cmd.proofs.Leading.{led-seen_mark}
 use Rattle.mentat_cmd.proofs.Led.{leads-not}

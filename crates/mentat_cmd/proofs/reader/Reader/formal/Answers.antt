@@ -1,4 +1,4 @@
-use Rattle.std.proofs.Common.{◌≡◌, ◌∙◌, false, true, refl, sym, arith}
+use Rattle.std.proofs.Common.{◌≡◌, ◌∙◌, false, refl, sym, arith}
 use Rattle.mentat_cmd.proofs.Leading.{led-int}
 use Rattle.mentat_cmd.proofs.Led.{leads-not}
 use Rattle.mentat_cmd.specs.Ahead.{first_is, is_any_name}

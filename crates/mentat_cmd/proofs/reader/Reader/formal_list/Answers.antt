@@ -1,4 +1,4 @@
-use Rattle.std.proofs.Common.{◌≡◌, ◌∙◌, false, true, refl, ap, sym, arith, Some, List, length}
+use Rattle.std.proofs.Common.{◌≡◌, ◌∙◌, false, refl, ap, sym, arith, Some, List, length}
 use Rattle.mentat_cmd.proofs.Leading.{led-mark}
 use Rattle.mentat_cmd.proofs.Parsed.{all-grown, reads-mark, separated-grown}
 use Rattle.mentat_cmd.proofs.WholeClasses.{led-formal_list}

@@ -1,4 +1,4 @@
-use Rattle.std.proofs.Common.{◌≡◌, ◌∙◌, ◌+◌, false, true, refl, sym, arith, codes}
+use Rattle.std.proofs.Common.{◌≡◌, ◌∙◌, ◌+◌, false, refl, sym, arith, codes}
 use Rattle.mentat_cmd.proofs.Leading.{led-begun, led-int, led-mark_on}
 use Rattle.mentat_cmd.proofs.Led.{leads-not}
 use Rattle.mentat_cmd.proofs.Parsed.{mark-of_mark_on, reads-begun, reads-both}

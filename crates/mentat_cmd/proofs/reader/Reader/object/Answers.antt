@@ -1,4 +1,4 @@
-use Rattle.std.proofs.Common.{◌∙◌, true, refl, sym}
+use Rattle.std.proofs.Common.{◌∙◌, refl, sym}
 use Rattle.mentat_cmd.proofs.Led.{leads-not}
 use Rattle.mentat_cmd.specs.Ahead.{is_any_name}
 use Rattle.mentat_cmd.specs.Stages.{BeforeVariable, BeforeSemicolon}

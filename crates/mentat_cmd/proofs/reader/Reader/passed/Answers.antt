@@ -1,9 +1,9 @@
-use Rattle.std.proofs.Common.{◌≡◌, ◌∙◌, true, refl, ap, sym, arith, Some, List, length}
+use Rattle.std.proofs.Common.{◌≡◌, ◌∙◌, refl, ap, sym, arith, Some, List, length}
 use Rattle.mentat_cmd.proofs.Leading.{led-mark}
 use Rattle.mentat_cmd.proofs.Parsed.{all-grown, reads-mark, separated-grown}
 use Rattle.mentat_cmd.specs.Parts.{is_light_flow}
 use Rattle.mentat_cmd.specs.Reader.{rest_of}
-use Rattle.mentat_cmd.specs.Stages.{BeforeOperand, BehindExpression, leads}
+use Rattle.mentat_cmd.specs.Stages.{BeforeOperand, BehindExpression}
 use Rattle.mentat_cmd.specs.declared.expression.Role.TheVariants.{Passed}
 use Rattle.mpl_ast.specs.declared.token.Mark.TheVariants as mark_of
 use Rattle.mpl_ast.specs.declared.token.Token.{Token}

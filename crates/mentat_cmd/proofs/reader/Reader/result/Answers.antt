@@ -1,11 +1,11 @@
-use Rattle.std.proofs.Common.{◌≡◌, ◌∙◌, ◌+◌, false, true, refl, sym, arith}
+use Rattle.std.proofs.Common.{◌≡◌, ◌∙◌, ◌+◌, false, refl, sym, arith}
 use Rattle.mentat_cmd.proofs.Leading.{led-begun, led-mark_on, led-name}
 use Rattle.mentat_cmd.proofs.Led.{leads-not}
 use Rattle.mentat_cmd.specs.Ahead.{first_is, is_any_name}
 use Rattle.mentat_cmd.specs.Reader.{rest_of}
 use Rattle.mentat_cmd.specs.Stages.{BeforeResult, BeforeAssign, BeforeReceiver, leads}
 use Rattle.mpl_ast.specs.declared.token.Mark.TheVariants as mark_of
-use Rattle.mpl_mean.specs.Reading.{is_mark, mark, name}
+use Rattle.mpl_mean.specs.Reading.{is_mark}
 use Rattle.mentat_cmd.proofs.reader.Reader.result.Goals as goal
 
 pub returns-then-not-sees_any_name-clause-unfit : goal.returns-then-not-sees_any_name-clause-unfit

@@ -1,4 +1,4 @@
-use Rattle.std.proofs.Common.{◌≡◌, ◌∙◌, false, true, refl, ap, sym, arith}
+use Rattle.std.proofs.Common.{◌≡◌, ◌∙◌, false, refl, ap, sym, arith}
 use Rattle.mentat_cmd.proofs.Closing.{closes-flow}
 use Rattle.mentat_cmd.proofs.Layers.{gives_result-rtf, statement_text-rtf}
 use Rattle.mentat_cmd.proofs.Leading.{led-mark_on, led-seen}
