@@ -32,6 +32,7 @@ pub mod ExpressionRules
 pub mod CallRules
 pub mod StatementRules
 pub mod Rules
+pub mod Accepted
 pub mod ExpressionTrees
 pub mod ProgramTrees
 pub mod WorkedYields

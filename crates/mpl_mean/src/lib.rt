@@ -3,12 +3,14 @@
 #![tactic(auto)]
 
 mod laws;
+mod typed;
 mod worked;
 
 pub use laws::{
     more_replies_only_add, more_turns_change_nothing, refusals_are_least, seven_rules_are_enough,
     tokens_are_few,
 };
+pub use typed::Typed;
 pub use worked::{
     calls_have_their_yields, loops_have_their_turns, parts_have_their_order, replies_are_awaited,
     traps_have_their_lines,
