@@ -5,10 +5,14 @@ mod ahead;
 mod class;
 mod command;
 mod expression;
+#[cfg(test)]
+mod fault_tests;
 mod output;
 mod parser;
 mod reader;
 mod run;
+#[cfg(test)]
+mod source_tests;
 mod statement;
 mod status;
 #[cfg(test)]

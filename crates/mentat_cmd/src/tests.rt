@@ -6,21 +6,27 @@ use std::test::Fail;
 
 /// A command's ending, and what it wrote to its output.
 #[derive(Drop)]
-struct Answer {
-    ending: Ending,
-    out: MemSink,
+pub struct Answer {
+    pub ending: Ending,
+    pub out: MemSink,
 }
 
 /// A list of the numbers of calls that are to fail.
-fn calls(alloc: Global, numbers: &[i64]) -> Result<Words, NoMemory> {
+pub fn calls(alloc: Global, numbers: &[i64]) -> Result<Words, NoMemory> {
     Words::from_slice(alloc, numbers)
 }
 
-/// Gives these words to a command whose shelf has one file, `a.mpl`.
-fn command(alloc: Global, words: &[&str], source: &[u8], out: MemSink) -> Result<Answer, NoMemory> {
-    let mut out = out;
-    let mut shelf = MemShelf::new(alloc, Words::new(alloc));
+/// A shelf with one file, `a.mpl`, whose calls of these numbers fail.
+pub fn shelf_of(alloc: Global, source: &[u8], failing: &[i64]) -> Result<MemShelf, NoMemory> {
+    let mut shelf = MemShelf::new(alloc, calls(alloc, failing)?);
     shelf.add_file(Text::of(alloc, "a.mpl")?, Bytes::from_slice(alloc, source)?)?;
+    Ok(shelf)
+}
+
+/// Gives these words to a command over a shelf and an output.
+pub fn command_over(alloc: Global, words: &[&str], shelf: MemShelf, out: MemSink) -> Result<Answer, NoMemory> {
+    let mut shelf = shelf;
+    let mut out = out;
     let mut texts = Vec::new(alloc);
     for word in words {
         texts.push(Text::of(alloc, word)?)?;
@@ -36,6 +42,11 @@ fn command(alloc: Global, words: &[&str], source: &[u8], out: MemSink) -> Result
         &mut err,
     );
     Ok(Answer { ending, out })
+}
+
+/// Gives these words to a command whose shelf has this source.
+pub fn command(alloc: Global, words: &[&str], source: &[u8], out: MemSink) -> Result<Answer, NoMemory> {
+    command_over(alloc, words, shelf_of(alloc, source, &[])?, out)
 }
 
 /// Runs a source over an output that takes everything.
@@ -229,26 +240,6 @@ fn a_source_has_a_limit(rt: HostRuntime) -> Result<(), Fail> {
         let out = MemSink::new(rt.alloc(), 1, Words::new(rt.alloc()));
         let run = command(rt.alloc(), &["run", "a.mpl"], source.as_slice(), out)?;
         assert_eq!(rt; run.ending.status, status, "{length} bytes");
-    }
-    Ok(())
-}
-
-#[test]
-fn an_output_may_fail(rt: HostRuntime) -> Result<(), Fail> {
-    let source = b"int main() { print(12); print(34); }";
-    let cases: [(u32, &[i64], Status, &str); 4] = [
-        (1, &[], Status::Done, "12\n34\n"),
-        (2, &[1], Status::WriteFault, ""),
-        (2, &[2], Status::WriteFault, "12"),
-        (2, &[4], Status::Done, "12\n34\n"),
-    ];
-    for (most, failing, status, text) in cases {
-        let failing = calls(rt.alloc(), failing)?;
-        assert!(rt; most >= 1);
-        let out = MemSink::new(rt.alloc(), most, failing);
-        let run = command(rt.alloc(), &["run", "a.mpl"], source, out)?;
-        assert_eq!(rt; run.ending, Ending { status, turns: 1 });
-        assert_eq!(rt; run.out.written().as_slice(), text.as_bytes());
     }
     Ok(())
 }
