@@ -38,7 +38,11 @@ fn each_call_of_an_output_may_fail(rt: HostRuntime) -> Result<(), Fail> {
             for bytes in written {
                 failing = failing.saturating_add(1);
                 let run = run_over(rt.alloc(), source, most, failing)?;
-                let status = if *bytes < text.len() { Status::WriteFault } else { status };
+                let status = if *bytes < text.len() {
+                    Status::WriteFault
+                } else {
+                    status
+                };
                 assert_eq!(rt; run.ending, Ending { status, turns: 1 }, "{most} {failing}");
                 let front = text.get(..*bytes).unwrap_or(text);
                 assert_eq!(rt; run.out.written().as_slice(), front, "{most} {failing}");

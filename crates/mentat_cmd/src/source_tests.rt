@@ -72,10 +72,7 @@ const SOURCES: [(&str, bool); 30] = [
     ),
     // Names that are known.
     ("int main() { c w; }", false),
-    (
-        "regular mentat class c { }; int main() { c w; }",
-        true,
-    ),
+    ("regular mentat class c { }; int main() { c w; }", true),
     (
         "regular mentat class c { int f(int x) { rtf(y); } }; int main() { }",
         false,
@@ -228,7 +225,11 @@ fn sources_run_or_are_refused(rt: HostRuntime) -> Result<(), Fail> {
             }
         }
         assert_eq!(rt; runs(rt.alloc(), source.as_slice())?, good, "{statements}");
-        assert_eq!(rt; is_refused(rt.alloc(), source.as_slice())?, !good, "{statements}");
+        assert_eq!(rt;
+            is_refused(rt.alloc(), source.as_slice())?,
+            !good,
+            "{statements}"
+        );
     }
     for (texts, most) in LIMITS {
         let (before, _, _) = texts;
@@ -241,7 +242,8 @@ fn sources_run_or_are_refused(rt: HostRuntime) -> Result<(), Fail> {
 }
 
 /// A program that has each construct of the first form.
-const WHOLE: &str = "regular mentat class c { int f ( int x , int y ) { rtf ( x * y + 1 ) ; } int g ( ) { rtf ( 2 ) ; } } ; int main ( ) { c w ; int a = w . f ( 3 , 4 - 1 ) ; int b = w . g ( ) ; print ( a , b * 2 ) ; }";
+const WHOLE: &str =
+    "regular mentat class c { int f ( int x , int y ) { rtf ( x * y + 1 ) ; } int g ( ) { rtf ( 2 ) ; } } ; int main ( ) { c w ; int a = w . f ( 3 , 4 - 1 ) ; int b = w . g ( ) ; print ( a , b * 2 ) ; }";
 
 #[test]
 fn a_source_that_ends_too_early_is_refused(rt: HostRuntime) -> Result<(), Fail> {

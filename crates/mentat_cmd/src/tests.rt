@@ -24,7 +24,12 @@ pub fn shelf_of(alloc: Global, source: &[u8], failing: &[i64]) -> Result<MemShel
 }
 
 /// Gives these words to a command over a shelf and an output.
-pub fn command_over(alloc: Global, words: &[&str], shelf: MemShelf, out: MemSink) -> Result<Answer, NoMemory> {
+pub fn command_over(
+    alloc: Global,
+    words: &[&str],
+    shelf: MemShelf,
+    out: MemSink,
+) -> Result<Answer, NoMemory> {
     let mut shelf = shelf;
     let mut out = out;
     let mut texts = Vec::new(alloc);
@@ -45,7 +50,12 @@ pub fn command_over(alloc: Global, words: &[&str], shelf: MemShelf, out: MemSink
 }
 
 /// Gives these words to a command whose shelf has this source.
-pub fn command(alloc: Global, words: &[&str], source: &[u8], out: MemSink) -> Result<Answer, NoMemory> {
+pub fn command(
+    alloc: Global,
+    words: &[&str],
+    source: &[u8],
+    out: MemSink,
+) -> Result<Answer, NoMemory> {
     command_over(alloc, words, shelf_of(alloc, source, &[])?, out)
 }
 

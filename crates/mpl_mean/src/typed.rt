@@ -14,7 +14,6 @@ pub struct Typed {
 impl Model for Typed {
     ghost use Rattle.mpl_ast.specs.declared.program.Program.{Program};
     ghost use Rattle.mpl_mean.specs.Accepted.{IsAccepted};
-
     ghost use Rattle.std.specs.Coded.{codes};
     ghost use Rattle.mpl_ast.specs.contracts.expression.Expression as expression;
     ghost use Rattle.mpl_ast.specs.contracts.flow.Flow as flow;
