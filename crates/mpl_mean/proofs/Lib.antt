@@ -41,3 +41,12 @@ mod FirstTypes
 mod FirstNodes
 mod FirstBodies
 mod FirstPrograms
+pub mod BothRead
+pub mod FirstTrees
+pub mod FirstTexts
+pub mod FirstShapes
+pub mod BothReadSums
+pub mod BothReadFlows
+pub mod BothReadStatements
+pub mod BothReadClasses
+pub mod OneTree

@@ -1,0 +1,191 @@
+-- Two readers that begin at one place: what each step of reading tells of both.
+use Rattle.std.proofs.Common.{◌≡◌, ℕ, ◌+◌, ℤ, Bool, true, false, ◌&&◌, ◌==◌, List, [], ◌∷◌, Option, Some, None, if◌then◌else◌, refl, ap, sym, ◌∙◌, subst}
+use Rattle.std.specs.Option.{option_and_then}
+use Rattle.std.specs.Ordering.{int_eq}
+use Rattle.std.proofs.lemmas.Bool.Decides.{Decides-eqb, Decides-int_eq}
+use Rattle.std.proofs.lemmas.Slice.Eq.{bytes_eq-Decides}
+use denote.Enum.Bare.{same_true}
+use Rattle.mpl_ast.specs.contracts.token.Keyword as keywords
+use Rattle.mpl_ast.specs.contracts.token.Mark as marks
+use Rattle.mpl_ast.specs.declared.place.At.{At}
+use Rattle.mpl_ast.specs.declared.place.Name.{Name}
+use Rattle.mpl_ast.specs.declared.token.Keyword.{Keyword}
+use Rattle.mpl_ast.specs.declared.token.Mark.{Mark}
+use Rattle.mpl_ast.specs.declared.token.Token.{Token}
+use Rattle.mpl_ast.specs.declared.token.TokenKind.{TokenKind}
+use Rattle.mpl_ast.specs.declared.token.TokenKind.TheVariants as kind
+use Rattle.mpl_mean.specs.Reading.{Reads, Rest, ◌>>◌, begins, ended, node, token, token_from, mark, mark_on, keyword, name, is_mark, is_keyword, is_name, is_number}
+
+-- ---- one after another
+
+pub if_read : {A : Type 0} (b : Bool) (o : Option A) (x : A) → (if b then o else None) ≡ Some x → (b ≡ true) × (o ≡ Some x)
+if_read true o x h = (refl, h)
+if_read false o x h = absurd cc
+
+pub both_hold : (a b : Bool) → (a && b) ≡ true → (a ≡ true) × (b ≡ true)
+both_hold true b h = (refl, h)
+both_hold false b h = absurd cc
+
+then_read : (o : Option Rest) (b : Reads) (x : Rest) → option_and_then b o ≡ Some x → (m : Rest) × (o ≡ Some m) × (b m ≡ Some x)
+then_read None b x h = absurd cc
+then_read (Some m) b x h = (m, refl, h)
+
+-- what was read by two was read by the first up to some place, and from there by the second
+pub in_turn : (a b : Reads) (r x : Rest) → (a >> b) r ≡ Some x → (m : Rest) × (a r ≡ Some m) × (b m ≡ Some x)
+in_turn a b r x h = then_read (a r) b x h
+
+pub some_same : {x y : Rest} → ◌≡◌ {A = Option Rest} (Some x) (Some y) → x ≡ y
+some_same h = cc
+
+-- one reader ends at one place
+pub one_end : (a : Reads) (r x y : Rest) → a r ≡ Some x → a r ≡ Some y → x ≡ y
+one_end a r x y h k = some_same (sym h ∙ k)
+
+-- ---- nodes
+
+-- behind the beginning of a node
+abbrev pub inside : Rest → Rest
+inside r = record r { next = r.next + 1 }
+
+ended_read : (at : At) (o : Option Rest) (x : Rest) → ended at o ≡ Some x → (o ≡ Some x) × (at.span.to ≡ x.last)
+ended_read at None x h = absurd cc
+ended_read at (Some m) x h =
+    let p = if_read _ _ _ h in
+    (p.1, (Decides-eqb at.span.to m.last).0 p.0 ∙ ap (λ (y : Rest). y.last) (some_same p.1))
+
+-- the parts of a node read what it reads
+pub parts_read : (at : At) (parts : Reads) (r x : Rest) → node at parts r ≡ Some x → parts (inside r) ≡ Some x
+parts_read at parts r x h = (ended_read at _ x (if_read _ _ _ h).1).0
+
+begun_same : (at bt : At) (ts : List Token) → begins at ts ≡ true → begins bt ts ≡ true → (at.span.from ≡ bt.span.from) × (at.line ≡ bt.line)
+begun_same at bt [] h k = absurd cc
+begun_same at bt (t ∷ ts) h k =
+    let p = both_hold _ _ h in
+    let q = both_hold _ _ k in
+    (
+        (Decides-eqb at.span.from t.span.from).0 p.0 ∙ sym ((Decides-eqb bt.span.from t.span.from).0 q.0),
+        (Decides-eqb at.line t.line).0 p.1 ∙ sym ((Decides-eqb bt.line t.line).0 q.1),
+    )
+
+pub at_same : (at bt : At) → at.span.from ≡ bt.span.from → at.span.to ≡ bt.span.to → at.line ≡ bt.line → at.id ≡ bt.id → at ≡ bt
+at_same at bt e f g h =
+    let place : ℕ → ℕ → ℕ → ℕ → At = λ from to line id. record { span = record { from = from; to = to }; line = line; id = id } in
+    ap (λ n. place n at.span.to at.line at.id) e ∙ ap (λ n. place bt.span.from n at.line at.id) f
+    ∙ ap (λ n. place bt.span.from bt.span.to n at.id) g ∙ ap (λ n. place bt.span.from bt.span.to bt.line n) h
+
+-- two nodes with one beginning and one end stand at one place
+pub one_place : (at bt : At) (a b : Reads) (r x y : Rest) → node at a r ≡ Some x → node bt b r ≡ Some y → x ≡ y → at ≡ bt
+one_place at bt a b r x y h k e =
+    let p = if_read _ _ _ h in
+    let q = if_read _ _ _ k in
+    let p_begins = both_hold _ _ p.0 in
+    let q_begins = both_hold _ _ q.0 in
+    let first = begun_same at bt r.tokens p_begins.1 q_begins.1 in
+    at_same at bt first.0
+        ((ended_read at _ x p.1).1 ∙ ap (λ (z : Rest). z.last) e ∙ sym (ended_read bt _ y q.1).1)
+        first.1
+        ((Decides-eqb at.id r.next).0 p_begins.0 ∙ sym ((Decides-eqb bt.id r.next).0 q_begins.0))
+
+-- ---- tokens
+
+token_read_from : (test : Token → Bool) (ts : List Token) (next : ℕ) (x : Rest) → token_from test ts next ≡ Some x → (t : Token) × (ts ≡ t ∷ x.tokens) × (test t ≡ true)
+token_read_from test [] next x h = absurd cc
+token_read_from test (t ∷ ts) next x h =
+    let r : Rest = record { tokens = ts; last = t.span.to; next = next } in
+    let p = if_read (test t) (Some r) x h in
+    (t, ap (λ (y : Rest). t ∷ y.tokens) (some_same p.1), p.0)
+
+-- the token that was read
+pub token_read : (test : Token → Bool) (r x : Rest) → token test r ≡ Some x → (t : Token) × (r.tokens ≡ t ∷ x.tokens) × (test t ≡ true)
+token_read test r x h = token_read_from test r.tokens r.next x h
+
+one_token_from : (test other : Token → Bool) (ts : List Token) (next : ℕ) (x y : Rest) → token_from test ts next ≡ Some x → token_from other ts next ≡ Some y
+    → (x ≡ y) × (t : Token) × (test t ≡ true) × (other t ≡ true)
+one_token_from test other [] next x y h k = absurd cc
+one_token_from test other (t ∷ ts) next x y h k =
+    let r : Rest = record { tokens = ts; last = t.span.to; next = next } in
+    let p = if_read (test t) (Some r) x h in
+    let q = if_read (other t) (Some r) y k in
+    (some_same (sym p.1 ∙ q.1), t, p.0, q.0)
+
+-- two that read one token read the same one
+pub one_token : (test other : Token → Bool) (r x y : Rest) → token test r ≡ Some x → token other r ≡ Some y → (x ≡ y) × (t : Token) × (test t ≡ true) × (other t ≡ true)
+one_token test other r x y h k = one_token_from test other r.tokens r.next x y h k
+
+-- ---- kinds of tokens
+
+pub mark_is : (m : Mark) (k : TokenKind) → is_mark m k ≡ true → k ≡ kind.Mark m
+mark_is m (kind.Name text) h = absurd cc
+mark_is m (kind.Number n) h = absurd cc
+mark_is m (kind.Keyword w) h = absurd cc
+mark_is m (kind.Mark n) h = ap kind.Mark (same_true marks.the_type tt n m h)
+
+pub keyword_is : (w : Keyword) (k : TokenKind) → is_keyword w k ≡ true → k ≡ kind.Keyword w
+keyword_is w (kind.Name text) h = absurd cc
+keyword_is w (kind.Number n) h = absurd cc
+keyword_is w (kind.Keyword v) h = ap kind.Keyword (same_true keywords.the_type tt v w h)
+keyword_is w (kind.Mark m) h = absurd cc
+
+pub name_is : (text : List ℕ) (k : TokenKind) → is_name text k ≡ true → k ≡ kind.Name text
+name_is text (kind.Name other) h = ap kind.Name ((bytes_eq-Decides other text).0 h)
+name_is text (kind.Number n) h = absurd cc
+name_is text (kind.Keyword v) h = absurd cc
+name_is text (kind.Mark m) h = absurd cc
+
+pub number_is : (value : ℤ) (k : TokenKind) → is_number value k ≡ true → k ≡ kind.Number value
+number_is value (kind.Name text) h = absurd cc
+number_is value (kind.Number other) h = ap kind.Number ((Decides-int_eq other value).0 h)
+number_is value (kind.Keyword v) h = absurd cc
+number_is value (kind.Mark m) h = absurd cc
+
+-- the kind of the first token
+abbrev pub head : List Token → Option TokenKind
+head [] = None
+head (t ∷ ts) = Some t.kind
+
+head_of : (ts us : List Token) (t : Token) (k : TokenKind) → ts ≡ t ∷ us → t.kind ≡ k → head ts ≡ Some k
+head_of ts us t k e f = ap head e ∙ ap Some f
+
+pub head_mark : (m : Mark) (r x : Rest) → mark m r ≡ Some x → head r.tokens ≡ Some (kind.Mark m)
+head_mark m r x h = let p = token_read (λ t. is_mark m t.kind) r x h in head_of r.tokens x.tokens p.0 (kind.Mark m) p.1 (mark_is m p.0.kind p.2)
+
+pub head_keyword : (w : Keyword) (r x : Rest) → keyword w r ≡ Some x → head r.tokens ≡ Some (kind.Keyword w)
+head_keyword w r x h = let p = token_read (λ t. is_keyword w t.kind) r x h in head_of r.tokens x.tokens p.0 (kind.Keyword w) p.1 (keyword_is w p.0.kind p.2)
+
+pub head_name : (n : Name) (r x : Rest) → name n r ≡ Some x → head r.tokens ≡ Some (kind.Name n.text)
+head_name n r x h =
+    let p = token_read (λ t. is_name n.text t.kind && (t.span.from == n.from)) r x h in
+    head_of r.tokens x.tokens p.0 (kind.Name n.text) p.1 (name_is n.text p.0.kind (both_hold _ _ p.2).0)
+
+-- ---- names, numbers and marks with a line
+
+name_same : (n o : Name) → n.text ≡ o.text → n.from ≡ o.from → n ≡ o
+name_same n o e f =
+    let named : ℕ → List ℕ → Name = λ from text. record { from = from; text = text } in
+    ap (named n.from) e ∙ ap (λ from. named from o.text) f
+
+pub one_name : (n o : Name) (r x y : Rest) → name n r ≡ Some x → name o r ≡ Some y → (n ≡ o) × (x ≡ y)
+one_name n o r x y h k =
+    let p = one_token (λ t. is_name n.text t.kind && (t.span.from == n.from)) (λ t. is_name o.text t.kind && (t.span.from == o.from)) r x y h k in
+    let t = p.1 in
+    let a = both_hold _ _ p.2 in
+    let b = both_hold _ _ p.3 in
+    let text : kind.Name n.text ≡ kind.Name o.text = sym (name_is n.text t.kind a.0) ∙ name_is o.text t.kind b.0 in
+    let same_text : n.text ≡ o.text = cc in
+    (name_same n o same_text (sym ((Decides-eqb t.span.from n.from).0 a.1) ∙ (Decides-eqb t.span.from o.from).0 b.1), p.0)
+
+pub one_number : (n o : ℤ) (r x y : Rest) → token (λ t. is_number n t.kind) r ≡ Some x → token (λ t. is_number o t.kind) r ≡ Some y → (n ≡ o) × (x ≡ y)
+one_number n o r x y h k =
+    let p = one_token (λ t. is_number n t.kind) (λ t. is_number o t.kind) r x y h k in
+    let t = p.1 in
+    let value : kind.Number n ≡ kind.Number o = sym (number_is n t.kind p.2) ∙ number_is o t.kind p.3 in
+    (cc, p.0)
+
+pub one_mark_on : (line other : ℕ) (m n : Mark) (r x y : Rest) → mark_on line m r ≡ Some x → mark_on other n r ≡ Some y → (line ≡ other) × (m ≡ n) × (x ≡ y)
+one_mark_on line other m n r x y h k =
+    let p = one_token (λ t. is_mark m t.kind && (t.line == line)) (λ t. is_mark n t.kind && (t.line == other)) r x y h k in
+    let t = p.1 in
+    let a = both_hold _ _ p.2 in
+    let b = both_hold _ _ p.3 in
+    let same : kind.Mark m ≡ kind.Mark n = sym (mark_is m t.kind a.0) ∙ mark_is n t.kind b.0 in
+    (sym ((Decides-eqb t.line line).0 a.1) ∙ (Decides-eqb t.line other).0 b.1, cc, p.0)
