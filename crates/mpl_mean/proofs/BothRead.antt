@@ -14,7 +14,7 @@ use Rattle.mpl_ast.specs.declared.token.Mark.{Mark}
 use Rattle.mpl_ast.specs.declared.token.Token.{Token}
 use Rattle.mpl_ast.specs.declared.token.TokenKind.{TokenKind}
 use Rattle.mpl_ast.specs.declared.token.TokenKind.TheVariants as kind
-use Rattle.mpl_mean.specs.Reading.{Reads, Rest, ◌>>◌, begins, ended, node, token, token_from, mark, mark_on, keyword, name, is_mark, is_keyword, is_name, is_number}
+use Rattle.mpl_mean.specs.Reading.{Reads, Rest, ◌>>◌, nothing, begins, ended, node, token, token_from, mark, mark_on, keyword, name, is_mark, is_keyword, is_name, is_number}
 
 -- ---- one after another
 
@@ -26,20 +26,45 @@ pub both_hold : (a b : Bool) → (a && b) ≡ true → (a ≡ true) × (b ≡ tr
 both_hold true b h = (refl, h)
 both_hold false b h = absurd cc
 
+some_same : {x y : Rest} → ◌≡◌ {A = Option Rest} (Some x) (Some y) → x ≡ y
+some_same h = cc
+
+-- the reader reads from one place to another
+pub record Reading (a : Reads) (r x : Rest) : Type 0 where
+  pub is : a r ≡ Some x
+
+pub reading : (a : Reads) {r x : Rest} → a r ≡ Some x → Reading a r x
+reading a h = record { is = h }
+
+-- one reader that begins at one place ends at one place
+pub one_end : {a : Reads} {r s x y : Rest} → r ≡ s → Reading a r x → Reading a s y → x ≡ y
+one_end {a = a} e h k = some_same (sym h.is ∙ ap a e ∙ k.is)
+
+abbrev pub chain : List Reads → Reads
+chain [] = nothing
+chain (a ∷ []) = a
+chain (a ∷ b ∷ qs) = a >> chain (b ∷ qs)
+
+-- readers in turn, each from where the one before it ended
+abbrev pub Through : List Reads → Rest → Rest → Type 0
+Through [] r x = r ≡ x
+Through (a ∷ []) r x = Reading a r x
+Through (a ∷ b ∷ qs) r x = (m : Rest) × Reading a r m × Through (b ∷ qs) m x
+
 then_read : (o : Option Rest) (b : Reads) (x : Rest) → option_and_then b o ≡ Some x → (m : Rest) × (o ≡ Some m) × (b m ≡ Some x)
 then_read None b x h = absurd cc
 then_read (Some m) b x h = (m, refl, h)
 
--- what was read by two was read by the first up to some place, and from there by the second
-pub in_turn : (a b : Reads) (r x : Rest) → (a >> b) r ≡ Some x → (m : Rest) × (a r ≡ Some m) × (b m ≡ Some x)
-in_turn a b r x h = then_read (a r) b x h
+through : (ps : List Reads) (r x : Rest) → chain ps r ≡ Some x → Through ps r x
+through [] r x h = some_same h
+through (a ∷ []) r x h = reading a h
+through (a ∷ b ∷ qs) r x h =
+    let p = then_read (a r) (chain (b ∷ qs)) x h in
+    (p.0, reading a p.1, through (b ∷ qs) p.0 x p.2)
 
-pub some_same : {x y : Rest} → ◌≡◌ {A = Option Rest} (Some x) (Some y) → x ≡ y
-some_same h = cc
-
--- one reader ends at one place
-pub one_end : (a : Reads) (r x y : Rest) → a r ≡ Some x → a r ≡ Some y → x ≡ y
-one_end a r x y h k = some_same (sym h ∙ k)
+-- what was read in turn
+pub in_turn : (ps : List Reads) {r x : Rest} → Reading (chain ps) r x → Through ps r x
+in_turn ps h = through ps _ _ h.is
 
 -- ---- nodes
 
@@ -54,8 +79,8 @@ ended_read at (Some m) x h =
     (p.1, (Decides-eqb at.span.to m.last).0 p.0 ∙ ap (λ (y : Rest). y.last) (some_same p.1))
 
 -- the parts of a node read what it reads
-pub parts_read : (at : At) (parts : Reads) (r x : Rest) → node at parts r ≡ Some x → parts (inside r) ≡ Some x
-parts_read at parts r x h = (ended_read at _ x (if_read _ _ _ h).1).0
+pub parts : (at : At) (ps : List Reads) {r x : Rest} → Reading (node at (chain ps)) r x → Through ps (inside r) x
+parts at ps h = through ps _ _ (ended_read at _ _ (if_read _ _ _ h.is).1).0
 
 begun_same : (at bt : At) (ts : List Token) → begins at ts ≡ true → begins bt ts ≡ true → (at.span.from ≡ bt.span.from) × (at.line ≡ bt.line)
 begun_same at bt [] h k = absurd cc
@@ -67,15 +92,14 @@ begun_same at bt (t ∷ ts) h k =
         (Decides-eqb at.line t.line).0 p.1 ∙ sym ((Decides-eqb bt.line t.line).0 q.1),
     )
 
-pub at_same : (at bt : At) → at.span.from ≡ bt.span.from → at.span.to ≡ bt.span.to → at.line ≡ bt.line → at.id ≡ bt.id → at ≡ bt
+at_same : (at bt : At) → at.span.from ≡ bt.span.from → at.span.to ≡ bt.span.to → at.line ≡ bt.line → at.id ≡ bt.id → at ≡ bt
 at_same at bt e f g h =
     let place : ℕ → ℕ → ℕ → ℕ → At = λ from to line id. record { span = record { from = from; to = to }; line = line; id = id } in
     ap (λ n. place n at.span.to at.line at.id) e ∙ ap (λ n. place bt.span.from n at.line at.id) f
     ∙ ap (λ n. place bt.span.from bt.span.to n at.id) g ∙ ap (λ n. place bt.span.from bt.span.to bt.line n) h
 
--- two nodes with one beginning and one end stand at one place
-pub one_place : (at bt : At) (a b : Reads) (r x y : Rest) → node at a r ≡ Some x → node bt b r ≡ Some y → x ≡ y → at ≡ bt
-one_place at bt a b r x y h k e =
+placed_same : (at bt : At) (a b : Reads) (r x y : Rest) → node at a r ≡ Some x → node bt b r ≡ Some y → x ≡ y → at ≡ bt
+placed_same at bt a b r x y h k e =
     let p = if_read _ _ _ h in
     let q = if_read _ _ _ k in
     let p_begins = both_hold _ _ p.0 in
@@ -85,6 +109,10 @@ one_place at bt a b r x y h k e =
         ((ended_read at _ x p.1).1 ∙ ap (λ (z : Rest). z.last) e ∙ sym (ended_read bt _ y q.1).1)
         first.1
         ((Decides-eqb at.id r.next).0 p_begins.0 ∙ sym ((Decides-eqb bt.id r.next).0 q_begins.0))
+
+-- two nodes with one beginning and one end stand at one place
+pub one_place : (at bt : At) (ps qs : List Reads) {r s x y : Rest} → r ≡ s → Reading (node at (chain ps)) r x → Reading (node bt (chain qs)) s y → x ≡ y → at ≡ bt
+one_place at bt ps qs {r = r} {y = y} e h k f = placed_same at bt (chain ps) (chain qs) r _ y h.is (subst (λ r. node bt (chain qs) r ≡ Some y) (sym e) k.is) f
 
 -- ---- tokens
 
@@ -96,7 +124,7 @@ token_read_from test (t ∷ ts) next x h =
     (t, ap (λ (y : Rest). t ∷ y.tokens) (some_same p.1), p.0)
 
 -- the token that was read
-pub token_read : (test : Token → Bool) (r x : Rest) → token test r ≡ Some x → (t : Token) × (r.tokens ≡ t ∷ x.tokens) × (test t ≡ true)
+token_read : (test : Token → Bool) (r x : Rest) → token test r ≡ Some x → (t : Token) × (r.tokens ≡ t ∷ x.tokens) × (test t ≡ true)
 token_read test r x h = token_read_from test r.tokens r.next x h
 
 one_token_from : (test other : Token → Bool) (ts : List Token) (next : ℕ) (x y : Rest) → token_from test ts next ≡ Some x → token_from other ts next ≡ Some y
@@ -109,8 +137,10 @@ one_token_from test other (t ∷ ts) next x y h k =
     (some_same (sym p.1 ∙ q.1), t, p.0, q.0)
 
 -- two that read one token read the same one
-pub one_token : (test other : Token → Bool) (r x y : Rest) → token test r ≡ Some x → token other r ≡ Some y → (x ≡ y) × (t : Token) × (test t ≡ true) × (other t ≡ true)
-one_token test other r x y h k = one_token_from test other r.tokens r.next x y h k
+one_token : (test other : Token → Bool) {r s x y : Rest} → r ≡ s → Reading (token test) r x → Reading (token other) s y
+    → (x ≡ y) × (t : Token) × (test t ≡ true) × (other t ≡ true)
+one_token test other {r = r} {y = y} e h k =
+    one_token_from test other r.tokens r.next _ y h.is (subst (λ r. token other r ≡ Some y) (sym e) k.is)
 
 -- ---- kinds of tokens
 
@@ -138,24 +168,54 @@ number_is value (kind.Number other) h = ap kind.Number ((Decides-int_eq other va
 number_is value (kind.Keyword v) h = absurd cc
 number_is value (kind.Mark m) h = absurd cc
 
+-- a token of the kind was taken
+pub record Took (k : TokenKind) (r x : Rest) : Type 0 where
+  pub token : Token
+  pub first : r.tokens ≡ token ∷ x.tokens
+  pub kind : token.kind ≡ k
+
+pub took_mark : (m : Mark) {r x : Rest} → Reading (mark m) r x → Took (kind.Mark m) r x
+took_mark m {r = r} {x = x} h =
+    let p = token_read (λ t. is_mark m t.kind) r x h.is in
+    record { token = p.0; first = p.1; kind = mark_is m p.0.kind p.2 }
+
+pub took_mark_on : (line : ℕ) (m : Mark) {r x : Rest} → Reading (mark_on line m) r x → Took (kind.Mark m) r x
+took_mark_on line m {r = r} {x = x} h =
+    let p = token_read (λ t. is_mark m t.kind && (t.line == line)) r x h.is in
+    record { token = p.0; first = p.1; kind = mark_is m p.0.kind (both_hold _ _ p.2).0 }
+
+pub took_keyword : (w : Keyword) {r x : Rest} → Reading (keyword w) r x → Took (kind.Keyword w) r x
+took_keyword w {r = r} {x = x} h =
+    let p = token_read (λ t. is_keyword w t.kind) r x h.is in
+    record { token = p.0; first = p.1; kind = keyword_is w p.0.kind p.2 }
+
+pub took_name : (n : Name) {r x : Rest} → Reading (name n) r x → Took (kind.Name n.text) r x
+took_name n {r = r} {x = x} h =
+    let p = token_read (λ t. is_name n.text t.kind && (t.span.from == n.from)) r x h.is in
+    record { token = p.0; first = p.1; kind = name_is n.text p.0.kind (both_hold _ _ p.2).0 }
+
+pub took_number : (value : ℤ) {r x : Rest} → Reading (token (λ t. is_number value t.kind)) r x → Took (kind.Number value) r x
+took_number value {r = r} {x = x} h =
+    let p = token_read (λ t. is_number value t.kind) r x h.is in
+    record { token = p.0; first = p.1; kind = number_is value p.0.kind p.2 }
+
 -- the kind of the first token
 abbrev pub head : List Token → Option TokenKind
 head [] = None
 head (t ∷ ts) = Some t.kind
 
-head_of : (ts us : List Token) (t : Token) (k : TokenKind) → ts ≡ t ∷ us → t.kind ≡ k → head ts ≡ Some k
-head_of ts us t k e f = ap head e ∙ ap Some f
+-- a token of the kind stands first
+pub record Heads (k : TokenKind) (r : Rest) : Type 0 where
+  pub first : head r.tokens ≡ Some k
 
-pub head_mark : (m : Mark) (r x : Rest) → mark m r ≡ Some x → head r.tokens ≡ Some (kind.Mark m)
-head_mark m r x h = let p = token_read (λ t. is_mark m t.kind) r x h in head_of r.tokens x.tokens p.0 (kind.Mark m) p.1 (mark_is m p.0.kind p.2)
+pub took_first : {k : TokenKind} {r x : Rest} → Took k r x → Heads k r
+took_first t = record { first = ap head t.first ∙ ap Some t.kind }
 
-pub head_keyword : (w : Keyword) (r x : Rest) → keyword w r ≡ Some x → head r.tokens ≡ Some (kind.Keyword w)
-head_keyword w r x h = let p = token_read (λ t. is_keyword w t.kind) r x h in head_of r.tokens x.tokens p.0 (kind.Keyword w) p.1 (keyword_is w p.0.kind p.2)
-
-pub head_name : (n : Name) (r x : Rest) → name n r ≡ Some x → head r.tokens ≡ Some (kind.Name n.text)
-head_name n r x h =
-    let p = token_read (λ t. is_name n.text t.kind && (t.span.from == n.from)) r x h in
-    head_of r.tokens x.tokens p.0 (kind.Name n.text) p.1 (name_is n.text p.0.kind (both_hold _ _ p.2).0)
+-- one kind stands first
+pub one_first : {k l : TokenKind} {r s : Rest} → r ≡ s → Heads k r → Heads l s → k ≡ l
+one_first {k = k} {l = l} e h i =
+    let same : ◌≡◌ {A = Option TokenKind} (Some k) (Some l) = sym h.first ∙ ap (λ (r : Rest). head r.tokens) e ∙ i.first in
+    cc
 
 -- ---- names, numbers and marks with a line
 
@@ -164,9 +224,9 @@ name_same n o e f =
     let named : ℕ → List ℕ → Name = λ from text. record { from = from; text = text } in
     ap (named n.from) e ∙ ap (λ from. named from o.text) f
 
-pub one_name : (n o : Name) (r x y : Rest) → name n r ≡ Some x → name o r ≡ Some y → (n ≡ o) × (x ≡ y)
-one_name n o r x y h k =
-    let p = one_token (λ t. is_name n.text t.kind && (t.span.from == n.from)) (λ t. is_name o.text t.kind && (t.span.from == o.from)) r x y h k in
+pub one_name : (n o : Name) {r s x y : Rest} → r ≡ s → Reading (name n) r x → Reading (name o) s y → (n ≡ o) × (x ≡ y)
+one_name n o e h k =
+    let p = one_token (λ t. is_name n.text t.kind && (t.span.from == n.from)) (λ t. is_name o.text t.kind && (t.span.from == o.from)) e h k in
     let t = p.1 in
     let a = both_hold _ _ p.2 in
     let b = both_hold _ _ p.3 in
@@ -174,16 +234,18 @@ one_name n o r x y h k =
     let same_text : n.text ≡ o.text = cc in
     (name_same n o same_text (sym ((Decides-eqb t.span.from n.from).0 a.1) ∙ (Decides-eqb t.span.from o.from).0 b.1), p.0)
 
-pub one_number : (n o : ℤ) (r x y : Rest) → token (λ t. is_number n t.kind) r ≡ Some x → token (λ t. is_number o t.kind) r ≡ Some y → (n ≡ o) × (x ≡ y)
-one_number n o r x y h k =
-    let p = one_token (λ t. is_number n t.kind) (λ t. is_number o t.kind) r x y h k in
+pub one_number : (n o : ℤ) {r s x y : Rest} → r ≡ s → Reading (token (λ t. is_number n t.kind)) r x → Reading (token (λ t. is_number o t.kind)) s y
+    → (n ≡ o) × (x ≡ y)
+one_number n o e h k =
+    let p = one_token (λ t. is_number n t.kind) (λ t. is_number o t.kind) e h k in
     let t = p.1 in
     let value : kind.Number n ≡ kind.Number o = sym (number_is n t.kind p.2) ∙ number_is o t.kind p.3 in
     (cc, p.0)
 
-pub one_mark_on : (line other : ℕ) (m n : Mark) (r x y : Rest) → mark_on line m r ≡ Some x → mark_on other n r ≡ Some y → (line ≡ other) × (m ≡ n) × (x ≡ y)
-one_mark_on line other m n r x y h k =
-    let p = one_token (λ t. is_mark m t.kind && (t.line == line)) (λ t. is_mark n t.kind && (t.line == other)) r x y h k in
+pub one_mark_on : (line other : ℕ) (m n : Mark) {r s x y : Rest} → r ≡ s → Reading (mark_on line m) r x → Reading (mark_on other n) s y
+    → (line ≡ other) × (m ≡ n) × (x ≡ y)
+one_mark_on line other m n e h k =
+    let p = one_token (λ t. is_mark m t.kind && (t.line == line)) (λ t. is_mark n t.kind && (t.line == other)) e h k in
     let t = p.1 in
     let a = both_hold _ _ p.2 in
     let b = both_hold _ _ p.3 in

@@ -45,6 +45,7 @@ pub mod BothRead
 pub mod FirstTrees
 pub mod FirstTexts
 pub mod FirstShapes
+pub mod OperatorCount
 pub mod BothReadSums
 pub mod BothReadFlows
 pub mod BothReadStatements
