@@ -64,12 +64,17 @@ abbrev pub sum_reads : FirstSum → Reads
 sum_reads (OneSummand at t) = node at (term_reads t)
 sum_reads (Joined at line s o t) = node at (sum_reads s >> mark_on line (sum_mark o) >> term_reads t)
 
+abbrev pub relation_reads : FirstRelation → Reads
+relation_reads r = node r.at (sum_reads r.sum)
+
+abbrev pub equality_reads : FirstEquality → Reads
+equality_reads e = node e.at (relation_reads e.relation)
+
+abbrev pub conjunction_reads : FirstConjunction → Reads
+conjunction_reads c = node c.at (equality_reads c.equality)
+
 abbrev pub expression_reads : FirstExpression → Reads
-expression_reads e =
-    let c = e.conjunction in
-    let q = c.equality in
-    let r = q.relation in
-    node e.at (node c.at (node q.at (node r.at (sum_reads r.sum))))
+expression_reads e = node e.at (conjunction_reads e.conjunction)
 
 -- ---- and its tree reads the same
 

@@ -21,7 +21,7 @@ pub data IsOperand : TokenKind → Type 0 where
   ForName : (text : List ℕ) → IsOperand (kind.Name text)
   ForNumber : (value : ℤ) → IsOperand (kind.Number value)
 
-took_place : (p : FirstPlace) {r x : Rest} → Reading (place_reads p) r x → Took (kind.Name p.variable.text) r x
+pub took_place : (p : FirstPlace) {r x : Rest} → Reading (place_reads p) r x → Took (kind.Name p.variable.text) r x
 took_place p h =
     let n = p.variable in
     let t = took_name n (parts p.target_at (name n ∷ []) (parts p.at (node p.target_at (name n) ∷ []) h)) in
