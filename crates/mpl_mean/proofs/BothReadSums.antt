@@ -1,4 +1,4 @@
--- Two expressions of the first form that are read from one place, and behind which no operator stands, are one.
+-- Two sums of the first form that are read from one place, and behind which no operator stands, are one.
 use Rattle.std.proofs.Common.{◌≡◌, ℕ, ◌+◌, ℤ, List, [], ◌∷◌, refl, ap, sym, subst, ◌∙◌, arith}
 use Rattle.mpl_ast.specs.declared.expression.Expression.{Expression}
 use Rattle.mpl_ast.specs.declared.expression.SumOperator.{SumOperator}
@@ -136,7 +136,7 @@ no_operator {r = r} (Closes h) =
 no_operator {r = r} (Goes h) =
     (ahead_ends times_step r.tokens (kind.Mark m.Comma) h.first (λ n. refl), ahead_ends plus_step r.tokens (kind.Mark m.Comma) h.first (λ n. refl))
 
-one_whole_sum : (a b : FirstSum) {r s x y : Rest} → r ≡ s → MayFollow x → MayFollow y → Reading (sum_reads a) r x → Reading (sum_reads b) s y → (a ≡ b) × (x ≡ y)
+pub one_whole_sum : (a b : FirstSum) {r s x y : Rest} → r ≡ s → MayFollow x → MayFollow y → Reading (sum_reads a) r x → Reading (sum_reads b) s y → (a ≡ b) × (x ≡ y)
 one_whole_sum a b e f g h k =
     let left = no_operator f in
     let right = no_operator g in

@@ -47,6 +47,8 @@ pub mod FirstTexts
 pub mod FirstShapes
 pub mod OperatorCount
 pub mod BothReadSums
+pub mod BothReadExpressions
+pub mod BothReadLists
 pub mod BothReadFlows
 pub mod BothReadStatements
 pub mod BothReadClasses
