@@ -26,7 +26,7 @@ pub both_hold : (a b : Bool) → (a && b) ≡ true → (a ≡ true) × (b ≡ tr
 both_hold true b h = (refl, h)
 both_hold false b h = absurd cc
 
-some_same : {x y : Rest} → ◌≡◌ {A = Option Rest} (Some x) (Some y) → x ≡ y
+pub some_same : {x y : Rest} → ◌≡◌ {A = Option Rest} (Some x) (Some y) → x ≡ y
 some_same h = cc
 
 -- the reader reads from one place to another
