@@ -36,6 +36,10 @@ pub record Reading (a : Reads) (r x : Rest) : Type 0 where
 pub reading : (a : Reads) {r x : Rest} → a r ≡ Some x → Reading a r x
 reading a h = record { is = h }
 
+-- what a reader reads, one that is the same reads
+pub told : {a b : Reads} {r x : Rest} → a ≡ b → Reading a r x → Reading b r x
+told {r = r} e h = record { is = sym (ap (λ a. a r) e) ∙ h.is }
+
 -- one reader that begins at one place ends at one place
 pub one_end : {a : Reads} {r s x y : Rest} → r ≡ s → Reading a r x → Reading a s y → x ≡ y
 one_end {a = a} e h k = some_same (sym h.is ∙ ap a e ∙ k.is)
