@@ -23,7 +23,7 @@ use Rattle.mpl_mean.proofs.BothReadSums.{MayFollow}
 use Rattle.mpl_mean.proofs.OpenTrees.{open_trees}
 use Rattle.mpl_mean.proofs.OperatorCount.{HeadsOperand}
 
-never : {A : Type 0} (b : Bool) → b ≡ false → b ≡ true → A
+pub never : {A : Type 0} (b : Bool) → b ≡ false → b ≡ true → A
 never b e h = absurd (true≢false (sym h ∙ e))
 
 -- ---- what is passed
