@@ -21,114 +21,21 @@ use Rattle.mpl_ast.specs.declared.token.Mark.TheVariants as m
 use Rattle.mpl_ast.specs.declared.token.TokenKind.{TokenKind}
 use Rattle.mpl_ast.specs.declared.token.TokenKind.TheVariants as kind
 use Rattle.mpl_mean.specs.ExpressionText.{expression_text}
-use Rattle.mpl_mean.specs.FirstForm.{gives_result, is_call, is_first_declarator, is_first_expression, is_first_flow, is_first_local, is_first_statement, is_int, is_named}
+use Rattle.mpl_mean.specs.FirstForm.{gives_result, is_call, is_first_declarator, is_first_expression, is_first_flow, is_first_local, is_first_statement, is_one_result}
 use Rattle.mpl_mean.specs.FirstForm as first
-use Rattle.mpl_mean.specs.Reading.{Reads, Rest, ◌>>◌, node, name, mark, keyword, nothing, optional, separated}
-use Rattle.mpl_mean.specs.StatementText.{StatementText, block_step, declarator_text, dimension_text, flow_text, local_text, statement_of, statement_step, statement_text, type_text}
-use Rattle.mpl_mean.proofs.BothRead.{Heads, Reading, both_hold, in_turn, inside, one_end, one_first, one_name, one_place, parts, told, took_first, took_keyword, took_mark, took_name}
+use Rattle.mpl_mean.specs.Reading.{Reads, Rest, ◌>>◌, node, name, mark, mark_on, keyword, each, nothing, separated}
+use Rattle.mpl_mean.specs.StatementText.{StatementText, block_step, block_text, declarator_text, dimension_text, flow_text, local_text, statement_of, statement_step, statement_text, type_text}
+use Rattle.mpl_mean.proofs.BothRead.{Heads, Reading, chain, in_turn, inside, one_end, one_first, one_mark_on, one_place, parts, told, took_first, took_keyword, took_mark, took_mark_on}
 use Rattle.mpl_mean.proofs.BothReadExpressions.{one_expression}
 use Rattle.mpl_mean.proofs.BothReadFlows.{never, one_flow, one_kept}
-use Rattle.mpl_mean.proofs.BothReadLists.{one_separated}
+use Rattle.mpl_mean.proofs.BothReadLists.{one_each, one_separated}
 use Rattle.mpl_mean.proofs.BothReadSums.{Closes}
-
--- ---- types
-
-abbrev pub type_head : TypeName → TokenKind
-type_head (type.Int at) = kind.Keyword word.Int
-type_head (type.Bool at) = kind.Keyword word.Bool
-type_head (type.Named at n) = kind.Name n.text
-
-pub type_starts : (t : TypeName) {r x : Rest} → Reading (type_text t) r x → Heads (type_head t) r
-type_starts (type.Int at) h = record { first = (took_first (took_keyword word.Int (parts at (keyword word.Int ∷ []) h))).first }
-type_starts (type.Bool at) h = record { first = (took_first (took_keyword word.Bool (parts at (keyword word.Bool ∷ []) h))).first }
-type_starts (type.Named at n) h = record { first = (took_first (took_name n (parts at (name n ∷ []) h))).first }
-
-same_head : (t u : TypeName) {r s x y : Rest} → r ≡ s → Reading (type_text t) r x → Reading (type_text u) s y → type_head t ≡ type_head u
-same_head t u e h k = one_first e (type_starts t h) (type_starts u k)
-
-pub one_type : (t u : TypeName) {r s x y : Rest} → r ≡ s → Reading (type_text t) r x → Reading (type_text u) s y → (t ≡ u) × (x ≡ y)
-one_type (type.Int at) (type.Int bt) e h k =
-    let end = one_end (ap inside e) (parts at (keyword word.Int ∷ []) h) (parts bt (keyword word.Int ∷ []) k) in
-    (ap type.Int (one_place at bt (keyword word.Int ∷ []) (keyword word.Int ∷ []) e h k end), end)
-one_type (type.Bool at) (type.Bool bt) e h k =
-    let end = one_end (ap inside e) (parts at (keyword word.Bool ∷ []) h) (parts bt (keyword word.Bool ∷ []) k) in
-    (ap type.Bool (one_place at bt (keyword word.Bool ∷ []) (keyword word.Bool ∷ []) e h k end), end)
-one_type (type.Named at n) (type.Named bt o) e h k =
-    let one = one_name n o (ap inside e) (parts at (name n ∷ []) h) (parts bt (name o ∷ []) k) in
-    let place = one_place at bt (name n ∷ []) (name o ∷ []) e h k one.1 in
-    (cc, one.1)
-one_type (type.Int at) (type.Bool bt) e h k = let same = same_head (type.Int at) (type.Bool bt) e h k in absurd cc
-one_type (type.Int at) (type.Named bt o) e h k = let same = same_head (type.Int at) (type.Named bt o) e h k in absurd cc
-one_type (type.Bool at) (type.Int bt) e h k = let same = same_head (type.Bool at) (type.Int bt) e h k in absurd cc
-one_type (type.Bool at) (type.Named bt o) e h k = let same = same_head (type.Bool at) (type.Named bt o) e h k in absurd cc
-one_type (type.Named at n) (type.Int bt) e h k = let same = same_head (type.Named at n) (type.Int bt) e h k in absurd cc
-one_type (type.Named at n) (type.Bool bt) e h k = let same = same_head (type.Named at n) (type.Bool bt) e h k in absurd cc
-
-named_or_int : {A : Type 0} (t : TypeName) → is_named t ≡ true → is_int t ≡ true → A
-named_or_int (type.Int at) p q = absurd (true≢false (sym p))
-named_or_int (type.Bool at) p q = absurd (true≢false (sym p))
-named_or_int (type.Named at n) p q = absurd (true≢false (sym q))
-
--- ---- variables
-
-abbrev no_dimension : Reads
-no_dimension = optional (option_map dimension_text None)
-
-one_declarator : (t : TypeName) (d e : Declarator) → is_first_declarator t d ≡ true → is_first_declarator t e ≡ true → {r s x y : Rest} → r ≡ s
-    → Reading (declarator_text d) r x → Reading (declarator_text e) s y → (d ≡ e) × (x ≡ y)
-one_declarator t (Plain at n None) (Plain bt o None) p q i h k =
-    let ps = name n ∷ no_dimension ∷ [] in
-    let qs = name o ∷ no_dimension ∷ [] in
-    let u = parts at ps h in
-    let v = parts bt qs k in
-    let one = one_name n o (ap inside i) u.1 v.1 in
-    let end = one_end one.1 u.2 v.2 in
-    let place = one_place at bt ps qs i h k end in
-    (cc, end)
-one_declarator t (Initialized at n f) (Initialized bt o g) p q i h k =
-    let ps = name n ∷ mark m.Assign ∷ flow_text f ∷ [] in
-    let qs = name o ∷ mark m.Assign ∷ flow_text g ∷ [] in
-    let u = parts at ps h in
-    let v = parts bt qs k in
-    let one = one_name n o (ap inside i) u.1 v.1 in
-    let call = one_kept f g (both_hold (is_int t) (is_call (out-Flow f)) p).1 (both_hold (is_int t) (is_call (out-Flow g)) q).1 (one_end one.1 u.2.1 v.2.1) u.2.2 v.2.2 in
-    let place = one_place at bt ps qs i h k call.1 in
-    (cc, call.1)
-one_declarator t (Plain at n None) (Initialized bt o g) p q i h k = named_or_int t p (both_hold (is_int t) (is_call (out-Flow g)) q).0
-one_declarator t (Initialized at n f) (Plain bt o None) p q i h k = named_or_int t q (both_hold (is_int t) (is_call (out-Flow f)) p).0
-one_declarator t (Plain at n (Some dimension)) e p q i h k = absurd (true≢false (sym p))
-one_declarator t (Plain at n None) (Plain bt o (Some dimension)) p q i h k = absurd (true≢false (sym q))
-one_declarator t (Initialized at n f) (Plain bt o (Some dimension)) p q i h k = absurd (true≢false (sym q))
-
-one_declared : (t : TypeName) (ds es : List Declarator) → is_first_local t ds ≡ true → is_first_local t es ≡ true → {r s x y : Rest} → r ≡ s
-    → Reading (separated (map declarator_text ds)) r x → Reading (separated (map declarator_text es)) s y → (ds ≡ es) × (x ≡ y)
-one_declared t (d ∷ []) (e ∷ []) p q i h k =
-    let u = in_turn (declarator_text d ∷ nothing ∷ []) h in
-    let v = in_turn (declarator_text e ∷ nothing ∷ []) k in
-    let one = one_declarator t d e p q i u.1 v.1 in
-    (ap (λ z. z ∷ []) one.0, one_end one.1 u.2 v.2)
-one_declared t [] es p q i h k = absurd (true≢false (sym p))
-one_declared t (d ∷ e ∷ ds) es p q i h k = absurd (true≢false (sym p))
-one_declared t (d ∷ []) [] p q i h k = absurd (true≢false (sym q))
-one_declared t (d ∷ []) (e ∷ f ∷ es) p q i h k = absurd (true≢false (sym q))
-
-one_local : (l n : Local) → is_first_local l.type_name l.declarators ≡ true → is_first_local n.type_name n.declarators ≡ true → {r s x y : Rest} → r ≡ s
-    → Reading (local_text l) r x → Reading (local_text n) s y → (l ≡ n) × (x ≡ y)
-one_local l n p q i h k =
-    let ps = type_text l.type_name ∷ separated (map declarator_text l.declarators) ∷ [] in
-    let qs = type_text n.type_name ∷ separated (map declarator_text n.declarators) ∷ [] in
-    let u = parts l.at ps h in
-    let v = parts n.at qs k in
-    let type = one_type l.type_name n.type_name (ap inside i) u.1 v.1 in
-    let one = one_declared l.type_name l.declarators n.declarators p (subst (λ t. is_first_local t n.declarators ≡ true) (sym type.0) q) type.1 u.2 v.2 in
-    let made : At → TypeName → List Declarator → Local = λ at type_name declarators. record { at = at; type_name = type_name; declarators = declarators } in
-    (ap (λ z. made z l.type_name l.declarators) (one_place l.at n.at ps qs i h k one.1) ∙ ap (λ z. made n.at z l.declarators) type.0 ∙ ap (made n.at n.type_name) one.0, one.1)
-
-local_starts : (l : Local) {r x : Rest} → Reading (local_text l) r x → Heads (type_head l.type_name) r
-local_starts l h =
-    record { first = (type_starts l.type_name (parts l.at (type_text l.type_name ∷ separated (map declarator_text l.declarators) ∷ []) h).1).first }
+use Rattle.mpl_mean.proofs.BothReadLocals.{local_starts, one_local, type_head}
 
 -- ---- the statements of `main`
+
+abbrev Layer : Type 0
+Layer = Statement-F Statement Block
 
 data MainStatement (s : Statement) : Type 0 where
   Declares : (at : At) (l : Local) → is_first_local l.type_name l.declarators ≡ true → s ≡ roll-Statement (Statement-F.Declare at l) → MainStatement s
@@ -177,10 +84,6 @@ print_parts es = keyword word.Print ∷ mark m.OpenParenthesis ∷ separated (ma
 abbrev rtf_parts : Flow → List Reads
 rtf_parts f = keyword word.Rtf ∷ mark m.OpenParenthesis ∷ flow_text f ∷ mark m.CloseParenthesis ∷ mark m.Semicolon ∷ []
 
--- what a statement reads, by its layer
-read_layer : (s : Statement) (l : Statement-F Statement Block) → s ≡ roll-Statement l → {r x : Rest} → Reading (statement_text s) r x → Reading (statement_text (roll-Statement l)) r x
-read_layer s l is h = told (ap statement_text is) h
-
 declare_text : (at : At) (l : Local) → statement_text (roll-Statement (Statement-F.Declare at l)) ≡ node at (local_text l >> mark m.Semicolon)
 declare_text at l = ap (λ (s : StatementText). s.text) (fold-roll-Statement StatementText Reads statement_step block_step (Statement-F.Declare at l))
 
@@ -191,3 +94,136 @@ print_text at es = ap (λ (s : StatementText). s.text) (fold-roll-Statement Stat
 rtf_text : (at : At) (f : Flow)
     → statement_text (roll-Statement (Statement-F.Rtf at f)) ≡ node at (keyword word.Rtf >> mark m.OpenParenthesis >> flow_text f >> mark m.CloseParenthesis >> mark m.Semicolon)
 rtf_text at f = ap (λ (s : StatementText). s.text) (fold-roll-Statement StatementText Reads statement_step block_step (Statement-F.Rtf at f))
+
+abbrev declare_parts : Local → List Reads
+declare_parts l = local_text l ∷ mark m.Semicolon ∷ []
+
+print_or_type : {A : Type 0} (t : TypeName) {r s : Rest} → r ≡ s → Heads (kind.Keyword word.Print) r → Heads (type_head t) s → A
+print_or_type (type.Int at) e h k = let same = one_first e h k in absurd cc
+print_or_type (type.Bool at) e h k = let same = one_first e h k in absurd cc
+print_or_type (type.Named at n) e h k = let same = one_first e h k in absurd cc
+
+print_starts : (at : At) (es : List Expression) {r x : Rest} → Reading (node at (chain (print_parts es))) r x → Heads (kind.Keyword word.Print) r
+print_starts at es h = record { first = (took_first (took_keyword word.Print (parts at (print_parts es) h).1)).first }
+
+declare_starts : (at : At) (l : Local) {r x : Rest} → Reading (node at (chain (declare_parts l))) r x → Heads (type_head l.type_name) r
+declare_starts at l h = record { first = (local_starts l (parts at (declare_parts l) h).1).first }
+
+one_print : (at bt : At) (es fs : List Expression) → list_all is_first_expression es ≡ true → list_all is_first_expression fs ≡ true → {r s x y : Rest} → r ≡ s
+    → Reading (node at (chain (print_parts es))) r x → Reading (node bt (chain (print_parts fs))) s y → ◌≡◌ {A = Layer} (Statement-F.Print at es) (Statement-F.Print bt fs) × (x ≡ y)
+one_print at bt es fs p q i h k =
+    let u = parts at (print_parts es) h in
+    let v = parts bt (print_parts fs) k in
+    let opened = one_end (one_end (ap inside i) u.1 v.1) u.2.1 v.2.1 in
+    let close = u.2.2.2.1 in
+    let other = v.2.2.2.1 in
+    let one = one_separated expression_text is_first_expression (λ d e p q r s x y i f g h k. one_expression d e p q i f g h k) es fs p q opened
+        (took_first (took_mark m.CloseParenthesis close)) (took_first (took_mark m.CloseParenthesis other)) u.2.2.1 v.2.2.1 in
+    let end = one_end (one_end one.1 close other) u.2.2.2.2 v.2.2.2.2 in
+    let place = one_place at bt (print_parts es) (print_parts fs) i h k end in
+    (cc, end)
+
+one_declare : (at bt : At) (l n : Local) → is_first_local l.type_name l.declarators ≡ true → is_first_local n.type_name n.declarators ≡ true → {r s x y : Rest} → r ≡ s
+    → Reading (node at (chain (declare_parts l))) r x → Reading (node bt (chain (declare_parts n))) s y → ◌≡◌ {A = Layer} (Statement-F.Declare at l) (Statement-F.Declare bt n) × (x ≡ y)
+one_declare at bt l n p q i h k =
+    let u = parts at (declare_parts l) h in
+    let v = parts bt (declare_parts n) k in
+    let one = one_local l n p q (ap inside i) u.1 v.1 in
+    let end = one_end one.1 u.2 v.2 in
+    let place = one_place at bt (declare_parts l) (declare_parts n) i h k end in
+    (cc, end)
+
+one_main : (a b : Statement) → MainStatement a → MainStatement b → {r s x y : Rest} → r ≡ s
+    → Reading (statement_text a) r x → Reading (statement_text b) s y → (a ≡ b) × (x ≡ y)
+one_main a b (Declares at l p f) (Declares bt n q g) i h k =
+    let one = one_declare at bt l n p q i (told (ap statement_text f ∙ declare_text at l) h) (told (ap statement_text g ∙ declare_text bt n) k) in
+    (f ∙ ap roll-Statement one.0 ∙ sym g, one.1)
+one_main a b (Prints at es p f) (Prints bt fs q g) i h k =
+    let one = one_print at bt es fs p q i (told (ap statement_text f ∙ print_text at es) h) (told (ap statement_text g ∙ print_text bt fs) k) in
+    (f ∙ ap roll-Statement one.0 ∙ sym g, one.1)
+one_main a b (Declares at l p f) (Prints bt fs q g) i h k =
+    print_or_type l.type_name (sym i) (print_starts bt fs (told (ap statement_text g ∙ print_text bt fs) k)) (declare_starts at l (told (ap statement_text f ∙ declare_text at l) h))
+one_main a b (Prints at es p f) (Declares bt n q g) i h k =
+    print_or_type n.type_name i (print_starts at es (told (ap statement_text f ∙ print_text at es) h)) (declare_starts bt n (told (ap statement_text g ∙ declare_text bt n) k))
+
+pub one_statement : (a b : Statement) → is_first_statement a ≡ true → is_first_statement b ≡ true → {r s x y : Rest} → r ≡ s
+    → Reading (statement_text a) r x → Reading (statement_text b) s y → (a ≡ b) × (x ≡ y)
+one_statement a b p q i h k = one_main a b (main_statement a p) (main_statement b q) i h k
+
+brace_or_type : (t : TypeName) {r s : Rest} → r ≡ s → Heads (kind.Mark m.CloseBrace) r → Heads (type_head t) s → ⊥
+brace_or_type (type.Int at) e h k = let same = one_first e h k in cc
+brace_or_type (type.Bool at) e h k = let same = one_first e h k in cc
+brace_or_type (type.Named at n) e h k = let same = one_first e h k in cc
+
+main_or_brace : (a : Statement) → MainStatement a → (r x : Rest) → Reading (statement_text a) r x → Heads (kind.Mark m.CloseBrace) r → ⊥
+main_or_brace a (Declares at l p f) r x h c =
+    let same : r ≡ r = refl in
+    brace_or_type l.type_name same c (declare_starts at l (told (ap statement_text f ∙ declare_text at l) h))
+main_or_brace a (Prints at es p f) r x h c =
+    let same : r ≡ r = refl in
+    let kinds = one_first same c (print_starts at es (told (ap statement_text f ∙ print_text at es) h)) in
+    cc
+
+-- ---- the one statement of a member
+
+one_given : (a b : Statement) → ResultStatement a → ResultStatement b → {r s x y : Rest} → r ≡ s
+    → Reading (statement_text a) r x → Reading (statement_text b) s y → (a ≡ b) × (x ≡ y)
+one_given a b (Gives at f p is) (Gives bt g q be) i h k =
+    let c = told (ap statement_text is ∙ rtf_text at f) h in
+    let d = told (ap statement_text be ∙ rtf_text bt g) k in
+    let u = parts at (rtf_parts f) c in
+    let v = parts bt (rtf_parts g) d in
+    let opened = one_end (one_end (ap inside i) u.1 v.1) u.2.1 v.2.1 in
+    let close = u.2.2.2.1 in
+    let other = v.2.2.2.1 in
+    let one = one_flow f g p q _ _ _ _ opened (Closes (took_first (took_mark m.CloseParenthesis close))) (Closes (took_first (took_mark m.CloseParenthesis other))) u.2.2.1 v.2.2.1 in
+    let end = one_end (one_end one.1 close other) u.2.2.2.2 v.2.2.2.2 in
+    let place = one_place at bt (rtf_parts f) (rtf_parts g) i c d end in
+    let layer : ◌≡◌ {A = Layer} (Statement-F.Rtf at f) (Statement-F.Rtf bt g) = cc in
+    (is ∙ ap roll-Statement layer ∙ sym be, end)
+
+-- ---- blocks
+
+abbrev block_parts : Block → List Reads
+block_parts b = mark m.OpenBrace ∷ each (map statement_text b.statements) ∷ mark_on b.mark_line m.CloseBrace ∷ []
+
+one_block : (a b : Block)
+    → ((r s x y : Rest) → r ≡ s → Heads (kind.Mark m.CloseBrace) x → Heads (kind.Mark m.CloseBrace) y
+        → Reading (each (map statement_text a.statements)) r x → Reading (each (map statement_text b.statements)) s y → (a.statements ≡ b.statements) × (x ≡ y))
+    → {r s x y : Rest} → r ≡ s → Reading (block_text a) r x → Reading (block_text b) s y → (a ≡ b) × (x ≡ y)
+one_block a b inner i h k =
+    let u = parts a.at (block_parts a) h in
+    let v = parts b.at (block_parts b) k in
+    let close = u.2.2 in
+    let other = v.2.2 in
+    let one = inner _ _ _ _ (one_end (ap inside i) u.1 v.1) (took_first (took_mark_on a.mark_line m.CloseBrace close)) (took_first (took_mark_on b.mark_line m.CloseBrace other)) u.2.1 v.2.1 in
+    let end = one_mark_on a.mark_line b.mark_line m.CloseBrace m.CloseBrace one.1 close other in
+    let place = one_place a.at b.at (block_parts a) (block_parts b) i h k end.2 in
+    let made : At → ℕ → List Statement → Block = λ at line statements. record { at = at; mark_line = line; statements = statements } in
+    (ap (λ z. made z a.mark_line a.statements) place ∙ ap (λ z. made b.at z a.statements) end.0 ∙ ap (made b.at b.mark_line) one.0, end.2)
+
+-- the block of `main`
+pub one_main_block : (a b : Block) → list_all is_first_statement a.statements ≡ true → list_all is_first_statement b.statements ≡ true → {r s x y : Rest} → r ≡ s
+    → Reading (block_text a) r x → Reading (block_text b) s y → (a ≡ b) × (x ≡ y)
+one_main_block a b p q i h k =
+    one_block a b
+        (λ r s x y i f g h k. one_each statement_text is_first_statement m.CloseBrace (λ a b p q r s x y i h k. one_statement a b p q i h k)
+            (λ a p r x h c. main_or_brace a (main_statement a p) r x h c) a.statements b.statements p q i f g h k)
+        i h k
+
+one_results : (vs ws : List Statement) → is_one_result vs ≡ true → is_one_result ws ≡ true → {r s x y : Rest} → r ≡ s
+    → Reading (each (map statement_text vs)) r x → Reading (each (map statement_text ws)) s y → (vs ≡ ws) × (x ≡ y)
+one_results (a ∷ []) (b ∷ []) p q i h k =
+    let u = in_turn (statement_text a ∷ nothing ∷ []) h in
+    let v = in_turn (statement_text b ∷ nothing ∷ []) k in
+    let one = one_given a b (result_statement a p) (result_statement b q) i u.1 v.1 in
+    (ap (λ z. z ∷ []) one.0, one_end one.1 u.2 v.2)
+one_results [] ws p q i h k = absurd (true≢false (sym p))
+one_results (a ∷ b ∷ vs) ws p q i h k = absurd (true≢false (sym p))
+one_results (a ∷ []) [] p q i h k = absurd (true≢false (sym q))
+one_results (a ∷ []) (b ∷ c ∷ ws) p q i h k = absurd (true≢false (sym q))
+
+-- the block of a member
+pub one_member_block : (a b : Block) → is_one_result a.statements ≡ true → is_one_result b.statements ≡ true → {r s x y : Rest} → r ≡ s
+    → Reading (block_text a) r x → Reading (block_text b) s y → (a ≡ b) × (x ≡ y)
+one_member_block a b p q i h k = one_block a b (λ r s x y i f g h k. one_results a.statements b.statements p q i h k) i h k

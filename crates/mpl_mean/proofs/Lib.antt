@@ -50,6 +50,7 @@ pub mod BothReadSums
 pub mod BothReadExpressions
 pub mod BothReadLists
 pub mod BothReadFlows
+pub mod BothReadLocals
 pub mod BothReadStatements
 pub mod BothReadClasses
 pub mod OneTree
