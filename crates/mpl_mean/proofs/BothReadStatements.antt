@@ -150,7 +150,7 @@ pub one_statement : (a b : Statement) → is_first_statement a ≡ true → is_f
     → Reading (statement_text a) r x → Reading (statement_text b) s y → (a ≡ b) × (x ≡ y)
 one_statement a b p q i h k = one_main a b (main_statement a p) (main_statement b q) i h k
 
-brace_or_type : (t : TypeName) {r s : Rest} → r ≡ s → Heads (kind.Mark m.CloseBrace) r → Heads (type_head t) s → ⊥
+pub brace_or_type : (t : TypeName) {r s : Rest} → r ≡ s → Heads (kind.Mark m.CloseBrace) r → Heads (type_head t) s → ⊥
 brace_or_type (type.Int at) e h k = let same = one_first e h k in cc
 brace_or_type (type.Bool at) e h k = let same = one_first e h k in cc
 brace_or_type (type.Named at n) e h k = let same = one_first e h k in cc
