@@ -1,7 +1,6 @@
 -- Two readers that begin at one place: what each step of reading tells of both.
 use Rattle.std.proofs.Common.{◌≡◌, ℕ, ◌+◌, ℤ, Bool, true, false, ◌&&◌, ◌==◌, List, [], ◌∷◌, Option, Some, None, if◌then◌else◌, refl, ap, sym, ◌∙◌, subst}
 use Rattle.std.specs.Option.{option_and_then}
-use Rattle.std.specs.Ordering.{int_eq}
 use Rattle.std.proofs.lemmas.Bool.Decides.{Decides-eqb, Decides-int_eq}
 use Rattle.std.proofs.lemmas.Slice.Eq.{bytes_eq-Decides}
 use denote.Enum.Bare.{same_true}
@@ -14,6 +13,7 @@ use Rattle.mpl_ast.specs.declared.token.Mark.{Mark}
 use Rattle.mpl_ast.specs.declared.token.Token.{Token}
 use Rattle.mpl_ast.specs.declared.token.TokenKind.{TokenKind}
 use Rattle.mpl_ast.specs.declared.token.TokenKind.TheVariants as kind
+use Rattle.mpl_mean.proofs.FirstExpressions.{both_true}
 use Rattle.mpl_mean.specs.Reading.{Reads, Rest, ◌>>◌, nothing, begins, ended, node, token, token_from, mark, mark_on, keyword, name, is_mark, is_keyword, is_name, is_number}
 
 -- ---- one after another
@@ -21,10 +21,6 @@ use Rattle.mpl_mean.specs.Reading.{Reads, Rest, ◌>>◌, nothing, begins, ended
 pub if_read : {A : Type 0} (b : Bool) (o : Option A) (x : A) → (if b then o else None) ≡ Some x → (b ≡ true) × (o ≡ Some x)
 if_read true o x h = (refl, h)
 if_read false o x h = absurd cc
-
-pub both_hold : (a b : Bool) → (a && b) ≡ true → (a ≡ true) × (b ≡ true)
-both_hold true b h = (refl, h)
-both_hold false b h = absurd cc
 
 pub some_same : {x y : Rest} → ◌≡◌ {A = Option Rest} (Some x) (Some y) → x ≡ y
 some_same h = cc
@@ -86,33 +82,32 @@ ended_read at (Some m) x h =
 pub parts : (at : At) (ps : List Reads) {r x : Rest} → Reading (node at (chain ps)) r x → Through ps (inside r) x
 parts at ps h = through ps _ _ (ended_read at _ _ (if_read _ _ _ h.is).1).0
 
-begun_same : (at bt : At) (ts : List Token) → begins at ts ≡ true → begins bt ts ≡ true → (at.span.from ≡ bt.span.from) × (at.line ≡ bt.line)
+pub begun_same : (at bt : At) (ts : List Token) → begins at ts ≡ true → begins bt ts ≡ true → (at.span.from ≡ bt.span.from) × (at.line ≡ bt.line)
 begun_same at bt [] h k = absurd cc
 begun_same at bt (t ∷ ts) h k =
-    let p = both_hold _ _ h in
-    let q = both_hold _ _ k in
-    (
-        (Decides-eqb at.span.from t.span.from).0 p.0 ∙ sym ((Decides-eqb bt.span.from t.span.from).0 q.0),
-        (Decides-eqb at.line t.line).0 p.1 ∙ sym ((Decides-eqb bt.line t.line).0 q.1),
+    let p = both_true _ _ h in
+    let q = both_true _ _ k in (
+      (Decides-eqb at.span.from t.span.from).0 p.0 ∙ sym ((Decides-eqb bt.span.from t.span.from).0 q.0),
+      (Decides-eqb at.line t.line).0 p.1 ∙ sym ((Decides-eqb bt.line t.line).0 q.1),
     )
 
-at_same : (at bt : At) → at.span.from ≡ bt.span.from → at.span.to ≡ bt.span.to → at.line ≡ bt.line → at.id ≡ bt.id → at ≡ bt
+pub at_same : (at bt : At) → at.span.from ≡ bt.span.from → at.span.to ≡ bt.span.to → at.line ≡ bt.line → at.id ≡ bt.id → at ≡ bt
 at_same at bt e f g h =
     let place : ℕ → ℕ → ℕ → ℕ → At = λ from to line id. record { span = record { from = from; to = to }; line = line; id = id } in
     ap (λ n. place n at.span.to at.line at.id) e ∙ ap (λ n. place bt.span.from n at.line at.id) f
     ∙ ap (λ n. place bt.span.from bt.span.to n at.id) g ∙ ap (λ n. place bt.span.from bt.span.to bt.line n) h
 
-placed_same : (at bt : At) (a b : Reads) (r x y : Rest) → node at a r ≡ Some x → node bt b r ≡ Some y → x ≡ y → at ≡ bt
+pub placed_same : (at bt : At) (a b : Reads) (r x y : Rest) → node at a r ≡ Some x → node bt b r ≡ Some y → x ≡ y → at ≡ bt
 placed_same at bt a b r x y h k e =
     let p = if_read _ _ _ h in
     let q = if_read _ _ _ k in
-    let p_begins = both_hold _ _ p.0 in
-    let q_begins = both_hold _ _ q.0 in
+    let p_begins = both_true _ _ p.0 in
+    let q_begins = both_true _ _ q.0 in
     let first = begun_same at bt r.tokens p_begins.1 q_begins.1 in
     at_same at bt first.0
-        ((ended_read at _ x p.1).1 ∙ ap (λ (z : Rest). z.last) e ∙ sym (ended_read bt _ y q.1).1)
-        first.1
-        ((Decides-eqb at.id r.next).0 p_begins.0 ∙ sym ((Decides-eqb bt.id r.next).0 q_begins.0))
+    ((ended_read at _ x p.1).1 ∙ ap (λ (z : Rest). z.last) e ∙ sym (ended_read bt _ y q.1).1)
+    first.1
+    ((Decides-eqb at.id r.next).0 p_begins.0 ∙ sym ((Decides-eqb bt.id r.next).0 q_begins.0))
 
 -- two nodes with one beginning and one end stand at one place
 pub one_place : (at bt : At) (ps qs : List Reads) {r s x y : Rest} → r ≡ s → Reading (node at (chain ps)) r x → Reading (node bt (chain qs)) s y → x ≡ y → at ≡ bt
@@ -131,7 +126,7 @@ token_read_from test (t ∷ ts) next x h =
 token_read : (test : Token → Bool) (r x : Rest) → token test r ≡ Some x → (t : Token) × (r.tokens ≡ t ∷ x.tokens) × (test t ≡ true)
 token_read test r x h = token_read_from test r.tokens r.next x h
 
-one_token_from : (test other : Token → Bool) (ts : List Token) (next : ℕ) (x y : Rest) → token_from test ts next ≡ Some x → token_from other ts next ≡ Some y
+pub one_token_from : (test other : Token → Bool) (ts : List Token) (next : ℕ) (x y : Rest) → token_from test ts next ≡ Some x → token_from other ts next ≡ Some y
     → (x ≡ y) × (t : Token) × (test t ≡ true) × (other t ≡ true)
 one_token_from test other [] next x y h k = absurd cc
 one_token_from test other (t ∷ ts) next x y h k =
@@ -141,7 +136,7 @@ one_token_from test other (t ∷ ts) next x y h k =
     (some_same (sym p.1 ∙ q.1), t, p.0, q.0)
 
 -- two that read one token read the same one
-one_token : (test other : Token → Bool) {r s x y : Rest} → r ≡ s → Reading (token test) r x → Reading (token other) s y
+pub one_token : (test other : Token → Bool) {r s x y : Rest} → r ≡ s → Reading (token test) r x → Reading (token other) s y
     → (x ≡ y) × (t : Token) × (test t ≡ true) × (other t ≡ true)
 one_token test other {r = r} {y = y} e h k =
     one_token_from test other r.tokens r.next _ y h.is (subst (λ r. token other r ≡ Some y) (sym e) k.is)
@@ -186,7 +181,7 @@ took_mark m {r = r} {x = x} h =
 pub took_mark_on : (line : ℕ) (m : Mark) {r x : Rest} → Reading (mark_on line m) r x → Took (kind.Mark m) r x
 took_mark_on line m {r = r} {x = x} h =
     let p = token_read (λ t. is_mark m t.kind && (t.line == line)) r x h.is in
-    record { token = p.0; first = p.1; kind = mark_is m p.0.kind (both_hold _ _ p.2).0 }
+    record { token = p.0; first = p.1; kind = mark_is m p.0.kind (both_true _ _ p.2).0 }
 
 pub took_keyword : (w : Keyword) {r x : Rest} → Reading (keyword w) r x → Took (kind.Keyword w) r x
 took_keyword w {r = r} {x = x} h =
@@ -196,7 +191,7 @@ took_keyword w {r = r} {x = x} h =
 pub took_name : (n : Name) {r x : Rest} → Reading (name n) r x → Took (kind.Name n.text) r x
 took_name n {r = r} {x = x} h =
     let p = token_read (λ t. is_name n.text t.kind && (t.span.from == n.from)) r x h.is in
-    record { token = p.0; first = p.1; kind = name_is n.text p.0.kind (both_hold _ _ p.2).0 }
+    record { token = p.0; first = p.1; kind = name_is n.text p.0.kind (both_true _ _ p.2).0 }
 
 pub took_number : (value : ℤ) {r x : Rest} → Reading (token (λ t. is_number value t.kind)) r x → Took (kind.Number value) r x
 took_number value {r = r} {x = x} h =
@@ -223,7 +218,7 @@ one_first {k = k} {l = l} e h i =
 
 -- ---- names, numbers and marks with a line
 
-name_same : (n o : Name) → n.text ≡ o.text → n.from ≡ o.from → n ≡ o
+pub name_same : (n o : Name) → n.text ≡ o.text → n.from ≡ o.from → n ≡ o
 name_same n o e f =
     let named : ℕ → List ℕ → Name = λ from text. record { from = from; text = text } in
     ap (named n.from) e ∙ ap (λ from. named from o.text) f
@@ -232,8 +227,8 @@ pub one_name : (n o : Name) {r s x y : Rest} → r ≡ s → Reading (name n) r 
 one_name n o e h k =
     let p = one_token (λ t. is_name n.text t.kind && (t.span.from == n.from)) (λ t. is_name o.text t.kind && (t.span.from == o.from)) e h k in
     let t = p.1 in
-    let a = both_hold _ _ p.2 in
-    let b = both_hold _ _ p.3 in
+    let a = both_true _ _ p.2 in
+    let b = both_true _ _ p.3 in
     let text : kind.Name n.text ≡ kind.Name o.text = sym (name_is n.text t.kind a.0) ∙ name_is o.text t.kind b.0 in
     let same_text : n.text ≡ o.text = cc in
     (name_same n o same_text (sym ((Decides-eqb t.span.from n.from).0 a.1) ∙ (Decides-eqb t.span.from o.from).0 b.1), p.0)
@@ -251,7 +246,7 @@ pub one_mark_on : (line other : ℕ) (m n : Mark) {r s x y : Rest} → r ≡ s �
 one_mark_on line other m n e h k =
     let p = one_token (λ t. is_mark m t.kind && (t.line == line)) (λ t. is_mark n t.kind && (t.line == other)) e h k in
     let t = p.1 in
-    let a = both_hold _ _ p.2 in
-    let b = both_hold _ _ p.3 in
+    let a = both_true _ _ p.2 in
+    let b = both_true _ _ p.3 in
     let same : kind.Mark m ≡ kind.Mark n = sym (mark_is m t.kind a.0) ∙ mark_is n t.kind b.0 in
     (sym ((Decides-eqb t.line line).0 a.1) ∙ (Decides-eqb t.line other).0 b.1, cc, p.0)

@@ -1,5 +1,5 @@
 -- Two classes of the first form that are read from one place are one.
-use Rattle.std.proofs.Common.{◌≡◌, ℕ, Bool, true, false, ◌&&◌, List, [], ◌∷◌, map, Option, Some, None, refl, ap, sym, ◌∙◌, true≢false}
+use Rattle.std.proofs.Common.{◌≡◌, ℕ, true, ◌&&◌, List, [], ◌∷◌, map, Option, Some, None, refl, ap, sym, ◌∙◌, true≢false}
 use Rattle.std.specs.List.{list_all}
 use Rattle.std.specs.Option.{option_map}
 use Rattle.mpl_ast.specs.declared.class.Formal.{Formal}
@@ -24,14 +24,15 @@ use Rattle.mpl_mean.specs.FirstForm.{are_ints, is_class, is_first_item, is_int, 
 use Rattle.mpl_mean.specs.ProgramText.{declaration_text, formal_text, formals_text, item_text, kind_text, result_text}
 use Rattle.mpl_mean.specs.Reading.{Reads, Rest, after_first, each, keyword, mark, mark_on, name, optional, separated}
 use Rattle.mpl_mean.specs.StatementText.{block_text, type_text}
-use Rattle.mpl_mean.proofs.BothRead.{Heads, Reading, both_hold, in_turn, inside, one_end, one_first, one_mark_on, one_name, one_place, parts, some_same, took_first, took_keyword, took_mark, took_mark_on}
+use Rattle.mpl_mean.proofs.BothRead.{Heads, Reading, in_turn, inside, one_end, one_first, one_mark_on, one_name, one_place, parts, some_same, took_first, took_keyword, took_mark, took_mark_on}
+use Rattle.mpl_mean.proofs.FirstExpressions.{both_true}
 use Rattle.mpl_mean.proofs.BothReadLists.{moved, one_each, one_separated}
 use Rattle.mpl_mean.proofs.BothReadLocals.{one_type, type_head, type_starts}
 use Rattle.mpl_mean.proofs.BothReadStatements.{brace_or_type, one_member_block}
 
 -- ---- formals
 
-one_formal : (f g : Formal) {r s x y : Rest} → r ≡ s → Reading (formal_text f) r x → Reading (formal_text g) s y → (f ≡ g) × (x ≡ y)
+pub one_formal : (f g : Formal) {r s x y : Rest} → r ≡ s → Reading (formal_text f) r x → Reading (formal_text g) s y → (f ≡ g) × (x ≡ y)
 one_formal f g i h k =
     let u = in_turn (type_text f.type_name ∷ name f.name ∷ []) h in
     let v = in_turn (type_text g.type_name ∷ name g.name ∷ []) k in
@@ -64,7 +65,7 @@ one_formals (Some f) (Some g) p q {r = r} {s = s} {x = x} {y = y} i c d h k =
     let a : Reading (formals_text f) r x = record { is = h.is } in
     let b : Reading (formals_text g) s y = record { is = k.is } in
     let one = one_separated formal_text (λ (f : Formal). is_int f.type_name) (λ f g p q r s x y i c d h k. one_formal f g i h k)
-        f.list g.list p q (ap inside i) c d (parts f.at (formals_parts f) a) (parts g.at (formals_parts g) b) in
+    f.list g.list p q (ap inside i) c d (parts f.at (formals_parts f) a) (parts g.at (formals_parts g) b) in
     let made : At → List Formal → Formals = λ at list. record { at = at; list = list } in
     (ap (λ z. Some (made z f.list)) (one_place f.at g.at (formals_parts f) (formals_parts g) i a b one.1) ∙ ap (λ z. Some (made g.at z)) one.0, one.1)
 one_formals None (Some g) p q {s = s} {y = y} i c d h k =
@@ -76,7 +77,7 @@ one_formals (Some f) None p q {r = r} {x = x} i c d h k =
 
 -- ---- members
 
-one_result_type : (t u : ResultType) → is_int_result t ≡ true → is_int_result u ≡ true → {r s x y : Rest} → r ≡ s
+pub one_result_type : (t u : ResultType) → is_int_result t ≡ true → is_int_result u ≡ true → {r s x y : Rest} → r ≡ s
     → Reading (result_text t) r x → Reading (result_text u) s y → (t ≡ u) × (x ≡ y)
 one_result_type (Typed at t) (Typed bt u) p q i h k =
     let one = one_type t u (ap inside i) (parts at (type_text t ∷ []) h) (parts bt (type_text u ∷ []) k) in
@@ -89,15 +90,15 @@ abbrev member_parts : ResultType → Name → Option Formals → Block → List 
 member_parts t n f b =
     result_text t ∷ name n ∷ mark m.OpenParenthesis ∷ optional (option_map formals_text f) ∷ mark m.CloseParenthesis ∷ block_text b ∷ []
 
-one_item : (a b : Item) → is_first_item a ≡ true → is_first_item b ≡ true → {r s x y : Rest} → r ≡ s
+pub one_item : (a b : Item) → is_first_item a ≡ true → is_first_item b ≡ true → {r s x y : Rest} → r ≡ s
     → Reading (item_text a) r x → Reading (item_text b) s y → (a ≡ b) × (x ≡ y)
 one_item (item.Member at t n f body) (item.Member bt u o g other) p q i h k =
     let ps = member_parts t n f body in
     let qs = member_parts u o g other in
-    let a = both_hold (is_int_result t && are_ints f) (is_one_result body.statements) p in
-    let b = both_hold (is_int_result u && are_ints g) (is_one_result other.statements) q in
-    let c = both_hold (is_int_result t) (are_ints f) a.0 in
-    let d = both_hold (is_int_result u) (are_ints g) b.0 in
+    let a = both_true (is_int_result t && are_ints f) (is_one_result body.statements) p in
+    let b = both_true (is_int_result u && are_ints g) (is_one_result other.statements) q in
+    let c = both_true (is_int_result t) (are_ints f) a.0 in
+    let d = both_true (is_int_result u) (are_ints g) b.0 in
     let v = parts at ps h in
     let w = parts bt qs k in
     let result = one_result_type t u c.0 d.0 (ap inside i) v.1 w.1 in
@@ -134,7 +135,7 @@ item_or_brace (item.Empty at) p r x h c = absurd (true≢false (sym p))
 
 -- ---- classes
 
-one_kind : (a b : Kind) → is_regular a ≡ true → is_regular b ≡ true → {r s x y : Rest} → r ≡ s → Reading (kind_text a) r x → Reading (kind_text b) s y → (a ≡ b) × (x ≡ y)
+pub one_kind : (a b : Kind) → is_regular a ≡ true → is_regular b ≡ true → {r s x y : Rest} → r ≡ s → Reading (kind_text a) r x → Reading (kind_text b) s y → (a ≡ b) × (x ≡ y)
 one_kind (Regular at) (Regular bt) p q i h k =
     let ps = keyword word.Regular ∷ [] in
     let end = one_end (ap inside i) (parts at ps h) (parts bt ps k) in
@@ -151,8 +152,8 @@ pub one_class : (a b : Declaration) → is_class a ≡ true → is_class b ≡ t
 one_class (declaration.Class at line kind n items) (declaration.Class bt other king o things) p q i h k =
     let ps = class_parts line kind n items in
     let qs = class_parts other king o things in
-    let a = both_hold (is_regular kind) (list_all is_first_item items) p in
-    let b = both_hold (is_regular king) (list_all is_first_item things) q in
+    let a = both_true (is_regular kind) (list_all is_first_item items) p in
+    let b = both_true (is_regular king) (list_all is_first_item things) q in
     let u = parts at ps h in
     let v = parts bt qs k in
     let regular = one_kind kind king a.0 b.0 (ap inside i) u.1 v.1 in
@@ -162,7 +163,7 @@ one_class (declaration.Class at line kind n items) (declaration.Class bt other k
     let close = u.2.2.2.2.2.2.1 in
     let closed = v.2.2.2.2.2.2.1 in
     let inner = one_each item_text is_first_item m.CloseBrace (λ a b p q r s x y i h k. one_item a b p q i h k) item_or_brace items things a.1 b.1 opened
-        (took_first (took_mark_on line m.CloseBrace close)) (took_first (took_mark_on other m.CloseBrace closed)) u.2.2.2.2.2.1 v.2.2.2.2.2.1 in
+    (took_first (took_mark_on line m.CloseBrace close)) (took_first (took_mark_on other m.CloseBrace closed)) u.2.2.2.2.2.1 v.2.2.2.2.2.1 in
     let brace = one_mark_on line other m.CloseBrace m.CloseBrace inner.1 close closed in
     let end = one_end brace.2 u.2.2.2.2.2.2.2 v.2.2.2.2.2.2.2 in
     let place = one_place at bt ps qs i h k end in

@@ -1,5 +1,5 @@
 -- Two expressions of the first form that are read from one place, and behind which no operator stands, are one.
-use Rattle.std.proofs.Common.{◌≡◌, true, [], ◌∷◌, ap, sym, subst, ◌∙◌}
+use Rattle.std.proofs.Common.{◌≡◌, true, [], ◌∷◌, ap, sym, ◌∙◌}
 use Rattle.mpl_ast.specs.declared.expression.Expression.{Expression}
 use Rattle.mpl_ast.specs.declared.place.At.{At}
 use Rattle.mpl_ast.specs.declared.token.Mark.{Mark}
@@ -17,7 +17,7 @@ use Rattle.mpl_mean.proofs.OperatorCount.{IsOperand, ForName, ForNumber, HeadsOp
 
 -- ---- the nodes around a sum
 
-one_relation : (a b : FirstRelation) {r s x y : Rest} → r ≡ s → MayFollow x → MayFollow y → Reading (relation_reads a) r x → Reading (relation_reads b) s y → (a ≡ b) × (x ≡ y)
+pub one_relation : (a b : FirstRelation) {r s x y : Rest} → r ≡ s → MayFollow x → MayFollow y → Reading (relation_reads a) r x → Reading (relation_reads b) s y → (a ≡ b) × (x ≡ y)
 one_relation a b e f g h k =
     let ps = sum_reads a.sum ∷ [] in
     let qs = sum_reads b.sum ∷ [] in
@@ -25,7 +25,7 @@ one_relation a b e f g h k =
     let made : At → FirstSum → FirstRelation = λ at sum. record { at = at; sum = sum } in
     (ap (λ z. made z a.sum) (one_place a.at b.at ps qs e h k one.1) ∙ ap (made b.at) one.0, one.1)
 
-one_equality : (a b : FirstEquality) {r s x y : Rest} → r ≡ s → MayFollow x → MayFollow y → Reading (equality_reads a) r x → Reading (equality_reads b) s y → (a ≡ b) × (x ≡ y)
+pub one_equality : (a b : FirstEquality) {r s x y : Rest} → r ≡ s → MayFollow x → MayFollow y → Reading (equality_reads a) r x → Reading (equality_reads b) s y → (a ≡ b) × (x ≡ y)
 one_equality a b e f g h k =
     let ps = relation_reads a.relation ∷ [] in
     let qs = relation_reads b.relation ∷ [] in
@@ -33,7 +33,7 @@ one_equality a b e f g h k =
     let made : At → FirstRelation → FirstEquality = λ at relation. record { at = at; relation = relation } in
     (ap (λ z. made z a.relation) (one_place a.at b.at ps qs e h k one.1) ∙ ap (made b.at) one.0, one.1)
 
-one_conjunction : (a b : FirstConjunction) {r s x y : Rest} → r ≡ s → MayFollow x → MayFollow y → Reading (conjunction_reads a) r x → Reading (conjunction_reads b) s y → (a ≡ b) × (x ≡ y)
+pub one_conjunction : (a b : FirstConjunction) {r s x y : Rest} → r ≡ s → MayFollow x → MayFollow y → Reading (conjunction_reads a) r x → Reading (conjunction_reads b) s y → (a ≡ b) × (x ≡ y)
 one_conjunction a b e f g h k =
     let ps = equality_reads a.equality ∷ [] in
     let qs = equality_reads b.equality ∷ [] in
@@ -41,7 +41,7 @@ one_conjunction a b e f g h k =
     let made : At → FirstEquality → FirstConjunction = λ at equality. record { at = at; equality = equality } in
     (ap (λ z. made z a.equality) (one_place a.at b.at ps qs e h k one.1) ∙ ap (made b.at) one.0, one.1)
 
-one_shape : (a b : FirstExpression) {r s x y : Rest} → r ≡ s → MayFollow x → MayFollow y → Reading (expression_reads a) r x → Reading (expression_reads b) s y → (a ≡ b) × (x ≡ y)
+pub one_shape : (a b : FirstExpression) {r s x y : Rest} → r ≡ s → MayFollow x → MayFollow y → Reading (expression_reads a) r x → Reading (expression_reads b) s y → (a ≡ b) × (x ≡ y)
 one_shape a b e f g h k =
     let ps = conjunction_reads a.conjunction ∷ [] in
     let qs = conjunction_reads b.conjunction ∷ [] in

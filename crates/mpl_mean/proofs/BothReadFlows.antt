@@ -1,5 +1,5 @@
 -- Two calls of the first form that are read from one place are one, and so are what is passed to them.
-use Rattle.std.proofs.Common.{◌≡◌, Bool, true, false, ◌&&◌, List, [], ◌∷◌, map, refl, ap, sym, ◌∙◌, true≢false}
+use Rattle.std.proofs.Common.{◌≡◌, Bool, true, false, List, [], ◌∷◌, map, refl, ap, sym, ◌∙◌, true≢false}
 use Rattle.std.specs.List.{list_all}
 use Rattle.mpl_ast.specs.declared.expression.Expression.{Expression}
 use Rattle.mpl_ast.specs.declared.expression.Target.{Target}
@@ -16,30 +16,30 @@ use Rattle.mpl_mean.specs.FirstForm.{is_call, is_first_call, is_first_expression
 use Rattle.mpl_mean.specs.FirstForm as first
 use Rattle.mpl_mean.specs.Reading.{Reads, Rest, node, name, mark, separated_if_any}
 use Rattle.mpl_mean.specs.StatementText.{call_step, flow_step, call_text, flow_text}
-use Rattle.mpl_mean.proofs.BothRead.{Heads, Reading, both_hold, inside, one_end, one_name, one_place, parts, told, took_first, took_mark}
+use Rattle.mpl_mean.proofs.BothRead.{Heads, Reading, inside, one_end, one_name, one_place, parts, told, took_first, took_mark}
+use Rattle.mpl_mean.proofs.FirstExpressions.{both_true}
 use Rattle.mpl_mean.proofs.BothReadExpressions.{expression_starts, one_expression, operand_or_mark}
 use Rattle.mpl_mean.proofs.BothReadLists.{one_separated_if_any}
 use Rattle.mpl_mean.proofs.BothReadSums.{MayFollow}
 use Rattle.mpl_mean.proofs.OpenTrees.{open_trees}
-use Rattle.mpl_mean.proofs.OperatorCount.{HeadsOperand}
 
 pub never : {A : Type 0} (b : Bool) → b ≡ false → b ≡ true → A
 never b e h = absurd (true≢false (sym h ∙ e))
 
 -- ---- what is passed
 
-record Passed (f : Flow) : Type 0 where
-  at : At
-  expression : Expression
-  first : is_first_expression expression ≡ true
-  is : f ≡ roll-Flow (Flow-F.OfExpression at expression)
+pub record Passed (f : Flow) : Type 0 where
+  pub at : At
+  pub expression : Expression
+  pub first : is_first_expression expression ≡ true
+  pub is : f ≡ roll-Flow (Flow-F.OfExpression at expression)
 
 passed_layer : (l : Flow-F Call Flow) → is_first_flow (roll-Flow l) ≡ true → Passed (roll-Flow l)
 passed_layer (Flow-F.OfCall at c) h = never _ (fold-roll-Flow Bool Bool first.call_step first.flow_step (Flow-F.OfCall at c)) h
 passed_layer (Flow-F.OfExpression at e) h =
     record { at = at; expression = e; first = sym (fold-roll-Flow Bool Bool first.call_step first.flow_step (Flow-F.OfExpression at e)) ∙ h; is = refl }
 
-passed : (f : Flow) → is_first_flow f ≡ true → Passed f
+pub passed : (f : Flow) → is_first_flow f ≡ true → Passed f
 passed = ind-Flow (λ c. Unit {0}) (λ f. is_first_flow f ≡ true → Passed f) (λ x y is. tt) (λ x y is. passed_layer x)
 
 passed_read : (f : Flow) (p : Passed f) {r x : Rest} → Reading (flow_text f) r x → Reading (node p.at (expression_text p.expression)) r x
@@ -67,7 +67,7 @@ flow_or_close f p r x h c =
 
 -- ---- targets
 
-one_target : (t u : Target) → is_variable t ≡ true → is_variable u ≡ true → {r s x y : Rest} → r ≡ s → Reading (target_text t) r x → Reading (target_text u) s y → (t ≡ u) × (x ≡ y)
+pub one_target : (t u : Target) → is_variable t ≡ true → is_variable u ≡ true → {r s x y : Rest} → r ≡ s → Reading (target_text t) r x → Reading (target_text u) s y → (t ≡ u) × (x ≡ y)
 one_target (Variable at n) (Variable bt o) p q e h k =
     let one = one_name n o (ap inside e) (parts at (name n ∷ []) h) (parts bt (name o ∷ []) k) in
     let place = one_place at bt (name n ∷ []) (name o ∷ []) e h k one.1 in
@@ -77,26 +77,26 @@ one_target (Variable at n) (Field bt o f) p q e h k = absurd (true≢false (sym 
 
 -- ---- calls
 
-record Called (c : Call) : Type 0 where
-  at : At
-  target : Target
-  member : Name
-  arguments : List Flow
-  variable : is_variable target ≡ true
-  passed : list_all is_first_flow arguments ≡ true
-  is : c ≡ roll-Call (Call-F.OnTarget at target member arguments)
+pub record Called (c : Call) : Type 0 where
+  pub at : At
+  pub target : Target
+  pub member : Name
+  pub arguments : List Flow
+  pub variable : is_variable target ≡ true
+  pub passed : list_all is_first_flow arguments ≡ true
+  pub is : c ≡ roll-Call (Call-F.OnTarget at target member arguments)
 
 all_flows : (fs : List Flow) → list_all (λ b. b) (map is_first_flow fs) ≡ true → list_all is_first_flow fs ≡ true
 all_flows [] h = refl
-all_flows (f ∷ fs) h = let p = both_hold (is_first_flow f) (list_all (λ b. b) (map is_first_flow fs)) h in rw (p.0, all_flows fs p.1) refl
+all_flows (f ∷ fs) h = let p = both_true (is_first_flow f) (list_all (λ b. b) (map is_first_flow fs)) h in rw (p.0, all_flows fs p.1) refl
 
 called_layer : (l : Call-F Call Flow) → is_first_call (roll-Call l) ≡ true → Called (roll-Call l)
 called_layer (Call-F.OnOwn at n fs) h = never _ (fold-roll-Call Bool Bool first.call_step first.flow_step (Call-F.OnOwn at n fs)) h
 called_layer (Call-F.OnTarget at t n fs) h =
-    let p = both_hold (is_variable t) (list_all (λ b. b) (map is_first_flow fs)) (sym (fold-roll-Call Bool Bool first.call_step first.flow_step (Call-F.OnTarget at t n fs)) ∙ h) in
+    let p = both_true (is_variable t) (list_all (λ b. b) (map is_first_flow fs)) (sym (fold-roll-Call Bool Bool first.call_step first.flow_step (Call-F.OnTarget at t n fs)) ∙ h) in
     record { at = at; target = t; member = n; arguments = fs; variable = p.0; passed = all_flows fs p.1; is = refl }
 
-called : (c : Call) → is_first_call c ≡ true → Called c
+pub called : (c : Call) → is_first_call c ≡ true → Called c
 called = ind-Call (λ c. is_first_call c ≡ true → Called c) (λ f. Unit {0}) (λ x y is. called_layer x) (λ x y is. tt)
 
 abbrev call_parts : Target → Name → List Flow → List Reads
@@ -119,7 +119,7 @@ one_call c d p q e h k =
     let close = u.2.2.2.2.2 in
     let other = v.2.2.2.2.2 in
     let arguments = one_separated_if_any flow_text is_first_flow one_flow flow_or_close a.arguments b.arguments a.passed b.passed opened
-        (took_first (took_mark m.CloseParenthesis close)) (took_first (took_mark m.CloseParenthesis other)) u.2.2.2.2.1 v.2.2.2.2.1 in
+    (took_first (took_mark m.CloseParenthesis close)) (took_first (took_mark m.CloseParenthesis other)) u.2.2.2.2.1 v.2.2.2.2.1 in
     let end = one_end arguments.1 close other in
     let place = one_place a.at b.at ps qs e i j end in
     let layer : Call-F.OnTarget a.at a.target a.member a.arguments ≡ Call-F.OnTarget b.at b.target b.member b.arguments = cc in
@@ -127,18 +127,18 @@ one_call c d p q e h k =
 
 -- ---- a call whose result is kept
 
-record Kept (f : Flow) : Type 0 where
-  at : At
-  call : Call
-  first : is_first_call call ≡ true
-  is : f ≡ roll-Flow (Flow-F.OfCall at call)
+pub record Kept (f : Flow) : Type 0 where
+  pub at : At
+  pub call : Call
+  pub first : is_first_call call ≡ true
+  pub is : f ≡ roll-Flow (Flow-F.OfCall at call)
 
 kept_layer : (l : Flow-F Call Flow) → is_call (out-Flow (roll-Flow l)) ≡ true → Kept (roll-Flow l)
 unfolding open_trees
 kept_layer (Flow-F.OfCall at c) h = record { at = at; call = c; first = h; is = refl }
 kept_layer (Flow-F.OfExpression at e) h = absurd (true≢false (sym h))
 
-kept : (f : Flow) → is_call (out-Flow f) ≡ true → Kept f
+pub kept : (f : Flow) → is_call (out-Flow f) ≡ true → Kept f
 kept = ind-Flow (λ c. Unit {0}) (λ f. is_call (out-Flow f) ≡ true → Kept f) (λ x y is. tt) (λ x y is. kept_layer x)
 
 pub one_kept : (f g : Flow) → is_call (out-Flow f) ≡ true → is_call (out-Flow g) ≡ true → {r s x y : Rest} → r ≡ s

@@ -1,35 +1,23 @@
 -- Two declarations of a variable of the first form that are read from one place are one.
-use Rattle.std.proofs.Common.{◌≡◌, ℕ, Bool, true, false, ◌&&◌, List, [], ◌∷◌, map, Option, Some, None, refl, ap, sym, subst, ◌∙◌, true≢false}
-use Rattle.std.specs.List.{list_all}
+use Rattle.std.proofs.Common.{◌≡◌, true, List, [], ◌∷◌, map, Some, None, ap, sym, subst, ◌∙◌, true≢false}
 use Rattle.std.specs.Option.{option_map}
-use Rattle.mpl_ast.specs.declared.expression.Expression.{Expression}
-use Rattle.mpl_ast.specs.declared.flow.Flow.{Flow, out-Flow}
+use Rattle.mpl_ast.specs.declared.flow.Flow.{out-Flow}
 use Rattle.mpl_ast.specs.declared.place.At.{At}
-use Rattle.mpl_ast.specs.declared.place.Name.{Name}
-use Rattle.mpl_ast.specs.declared.statement.Block.{Block}
 use Rattle.mpl_ast.specs.declared.statement.Declarator.{Declarator}
 use Rattle.mpl_ast.specs.declared.statement.Declarator.TheVariants.{Plain, Initialized}
-use Rattle.mpl_ast.specs.declared.statement.Dimension.{Dimension}
 use Rattle.mpl_ast.specs.declared.statement.Local.{Local}
-use Rattle.mpl_ast.specs.declared.statement.Statement.{Statement, fold-roll-Statement, ind-Statement, roll-Statement}
-use Rattle.mpl_ast.specs.declared.statement.Statement.TheOpen.{Statement-F}
 use Rattle.mpl_ast.specs.declared.statement.TypeName.{TypeName}
 use Rattle.mpl_ast.specs.declared.statement.TypeName.TheVariants as type
 use Rattle.mpl_ast.specs.declared.token.Keyword.TheVariants as word
-use Rattle.mpl_ast.specs.declared.token.Mark.{Mark}
 use Rattle.mpl_ast.specs.declared.token.Mark.TheVariants as m
 use Rattle.mpl_ast.specs.declared.token.TokenKind.{TokenKind}
 use Rattle.mpl_ast.specs.declared.token.TokenKind.TheVariants as kind
-use Rattle.mpl_mean.specs.ExpressionText.{expression_text}
-use Rattle.mpl_mean.specs.FirstForm.{gives_result, is_call, is_first_declarator, is_first_expression, is_first_flow, is_first_local, is_first_statement, is_int, is_named}
-use Rattle.mpl_mean.specs.FirstForm as first
-use Rattle.mpl_mean.specs.Reading.{Reads, Rest, ◌>>◌, node, name, mark, keyword, nothing, optional, separated}
-use Rattle.mpl_mean.specs.StatementText.{StatementText, block_step, declarator_text, dimension_text, flow_text, local_text, statement_of, statement_step, statement_text, type_text}
-use Rattle.mpl_mean.proofs.BothRead.{Heads, Reading, both_hold, in_turn, inside, one_end, one_first, one_name, one_place, parts, told, took_first, took_keyword, took_mark, took_name}
-use Rattle.mpl_mean.proofs.BothReadExpressions.{one_expression}
-use Rattle.mpl_mean.proofs.BothReadFlows.{never, one_flow, one_kept}
-use Rattle.mpl_mean.proofs.BothReadLists.{one_separated}
-use Rattle.mpl_mean.proofs.BothReadSums.{Closes}
+use Rattle.mpl_mean.specs.FirstForm.{is_call, is_first_declarator, is_first_local, is_int, is_named}
+use Rattle.mpl_mean.specs.Reading.{Reads, Rest, name, mark, keyword, nothing, optional, separated}
+use Rattle.mpl_mean.specs.StatementText.{declarator_text, dimension_text, flow_text, local_text, type_text}
+use Rattle.mpl_mean.proofs.BothRead.{Heads, Reading, in_turn, inside, one_end, one_first, one_name, one_place, parts, took_first, took_keyword, took_name}
+use Rattle.mpl_mean.proofs.FirstExpressions.{both_true}
+use Rattle.mpl_mean.proofs.BothReadFlows.{one_kept}
 
 -- ---- types
 
@@ -74,7 +62,7 @@ named_or_int (type.Named at n) p q = absurd (true≢false (sym q))
 abbrev no_dimension : Reads
 no_dimension = optional (option_map dimension_text None)
 
-one_declarator : (t : TypeName) (d e : Declarator) → is_first_declarator t d ≡ true → is_first_declarator t e ≡ true → {r s x y : Rest} → r ≡ s
+pub one_declarator : (t : TypeName) (d e : Declarator) → is_first_declarator t d ≡ true → is_first_declarator t e ≡ true → {r s x y : Rest} → r ≡ s
     → Reading (declarator_text d) r x → Reading (declarator_text e) s y → (d ≡ e) × (x ≡ y)
 one_declarator t (Plain at n None) (Plain bt o None) p q i h k =
     let ps = name n ∷ no_dimension ∷ [] in
@@ -91,16 +79,16 @@ one_declarator t (Initialized at n f) (Initialized bt o g) p q i h k =
     let u = parts at ps h in
     let v = parts bt qs k in
     let one = one_name n o (ap inside i) u.1 v.1 in
-    let call = one_kept f g (both_hold (is_int t) (is_call (out-Flow f)) p).1 (both_hold (is_int t) (is_call (out-Flow g)) q).1 (one_end one.1 u.2.1 v.2.1) u.2.2 v.2.2 in
+    let call = one_kept f g (both_true (is_int t) (is_call (out-Flow f)) p).1 (both_true (is_int t) (is_call (out-Flow g)) q).1 (one_end one.1 u.2.1 v.2.1) u.2.2 v.2.2 in
     let place = one_place at bt ps qs i h k call.1 in
     (cc, call.1)
-one_declarator t (Plain at n None) (Initialized bt o g) p q i h k = named_or_int t p (both_hold (is_int t) (is_call (out-Flow g)) q).0
-one_declarator t (Initialized at n f) (Plain bt o None) p q i h k = named_or_int t q (both_hold (is_int t) (is_call (out-Flow f)) p).0
+one_declarator t (Plain at n None) (Initialized bt o g) p q i h k = named_or_int t p (both_true (is_int t) (is_call (out-Flow g)) q).0
+one_declarator t (Initialized at n f) (Plain bt o None) p q i h k = named_or_int t q (both_true (is_int t) (is_call (out-Flow f)) p).0
 one_declarator t (Plain at n (Some dimension)) e p q i h k = absurd (true≢false (sym p))
 one_declarator t (Plain at n None) (Plain bt o (Some dimension)) p q i h k = absurd (true≢false (sym q))
 one_declarator t (Initialized at n f) (Plain bt o (Some dimension)) p q i h k = absurd (true≢false (sym q))
 
-one_declared : (t : TypeName) (ds es : List Declarator) → is_first_local t ds ≡ true → is_first_local t es ≡ true → {r s x y : Rest} → r ≡ s
+pub one_declared : (t : TypeName) (ds es : List Declarator) → is_first_local t ds ≡ true → is_first_local t es ≡ true → {r s x y : Rest} → r ≡ s
     → Reading (separated (map declarator_text ds)) r x → Reading (separated (map declarator_text es)) s y → (ds ≡ es) × (x ≡ y)
 one_declared t (d ∷ []) (e ∷ []) p q i h k =
     let u = in_turn (declarator_text d ∷ nothing ∷ []) h in

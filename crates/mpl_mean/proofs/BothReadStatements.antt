@@ -1,33 +1,26 @@
 -- Two statements of the first form that are read from one place are one.
-use Rattle.std.proofs.Common.{◌≡◌, ℕ, Bool, true, false, ◌&&◌, List, [], ◌∷◌, map, Option, Some, None, refl, ap, sym, subst, ◌∙◌, true≢false}
+use Rattle.std.proofs.Common.{◌≡◌, ℕ, Bool, true, List, [], ◌∷◌, map, refl, ap, sym, ◌∙◌, true≢false}
 use Rattle.std.specs.List.{list_all}
-use Rattle.std.specs.Option.{option_map}
 use Rattle.mpl_ast.specs.declared.expression.Expression.{Expression}
-use Rattle.mpl_ast.specs.declared.flow.Flow.{Flow, out-Flow}
+use Rattle.mpl_ast.specs.declared.flow.Flow.{Flow}
 use Rattle.mpl_ast.specs.declared.place.At.{At}
-use Rattle.mpl_ast.specs.declared.place.Name.{Name}
 use Rattle.mpl_ast.specs.declared.statement.Block.{Block}
-use Rattle.mpl_ast.specs.declared.statement.Declarator.{Declarator}
-use Rattle.mpl_ast.specs.declared.statement.Declarator.TheVariants.{Plain, Initialized}
-use Rattle.mpl_ast.specs.declared.statement.Dimension.{Dimension}
 use Rattle.mpl_ast.specs.declared.statement.Local.{Local}
 use Rattle.mpl_ast.specs.declared.statement.Statement.{Statement, fold-roll-Statement, ind-Statement, roll-Statement}
 use Rattle.mpl_ast.specs.declared.statement.Statement.TheOpen.{Statement-F}
 use Rattle.mpl_ast.specs.declared.statement.TypeName.{TypeName}
 use Rattle.mpl_ast.specs.declared.statement.TypeName.TheVariants as type
 use Rattle.mpl_ast.specs.declared.token.Keyword.TheVariants as word
-use Rattle.mpl_ast.specs.declared.token.Mark.{Mark}
 use Rattle.mpl_ast.specs.declared.token.Mark.TheVariants as m
-use Rattle.mpl_ast.specs.declared.token.TokenKind.{TokenKind}
 use Rattle.mpl_ast.specs.declared.token.TokenKind.TheVariants as kind
 use Rattle.mpl_mean.specs.ExpressionText.{expression_text}
 use Rattle.mpl_mean.specs.FirstForm.{gives_result, is_call, is_first_declarator, is_first_expression, is_first_flow, is_first_local, is_first_statement, is_one_result}
 use Rattle.mpl_mean.specs.FirstForm as first
-use Rattle.mpl_mean.specs.Reading.{Reads, Rest, ◌>>◌, node, name, mark, mark_on, keyword, each, nothing, separated}
-use Rattle.mpl_mean.specs.StatementText.{StatementText, block_step, block_text, declarator_text, dimension_text, flow_text, local_text, statement_of, statement_step, statement_text, type_text}
+use Rattle.mpl_mean.specs.Reading.{Reads, Rest, ◌>>◌, node, mark, mark_on, keyword, each, nothing, separated}
+use Rattle.mpl_mean.specs.StatementText.{StatementText, block_step, block_text, flow_text, local_text, statement_step, statement_text}
 use Rattle.mpl_mean.proofs.BothRead.{Heads, Reading, chain, in_turn, inside, one_end, one_first, one_mark_on, one_place, parts, told, took_first, took_keyword, took_mark, took_mark_on}
 use Rattle.mpl_mean.proofs.BothReadExpressions.{one_expression}
-use Rattle.mpl_mean.proofs.BothReadFlows.{never, one_flow, one_kept}
+use Rattle.mpl_mean.proofs.BothReadFlows.{never, one_flow}
 use Rattle.mpl_mean.proofs.BothReadLists.{one_each, one_separated}
 use Rattle.mpl_mean.proofs.BothReadSums.{Closes}
 use Rattle.mpl_mean.proofs.BothReadLocals.{local_starts, one_local, type_head}
@@ -37,11 +30,11 @@ use Rattle.mpl_mean.proofs.BothReadLocals.{local_starts, one_local, type_head}
 abbrev Layer : Type 0
 Layer = Statement-F Statement Block
 
-data MainStatement (s : Statement) : Type 0 where
+pub data MainStatement (s : Statement) : Type 0 where
   Declares : (at : At) (l : Local) → is_first_local l.type_name l.declarators ≡ true → s ≡ roll-Statement (Statement-F.Declare at l) → MainStatement s
   Prints : (at : At) (es : List Expression) → list_all is_first_expression es ≡ true → s ≡ roll-Statement (Statement-F.Print at es) → MainStatement s
 
-data ResultStatement (s : Statement) : Type 0 where
+pub data ResultStatement (s : Statement) : Type 0 where
   Gives : (at : At) (f : Flow) → is_first_flow f ≡ true → s ≡ roll-Statement (Statement-F.Rtf at f) → ResultStatement s
 
 main_layer : (l : Statement-F Statement Block) → is_first_statement (roll-Statement l) ≡ true → MainStatement (roll-Statement l)
@@ -58,7 +51,7 @@ main_layer (Statement-F.Rtf at v) h = never _ (fold-roll-Statement Bool Bool fir
 main_layer (Statement-F.Return at v) h = never _ (fold-roll-Statement Bool Bool first.statement_step first.block_step (Statement-F.Return at v)) h
 main_layer (Statement-F.Empty at) h = never _ (fold-roll-Statement Bool Bool first.statement_step first.block_step (Statement-F.Empty at)) h
 
-main_statement : (s : Statement) → is_first_statement s ≡ true → MainStatement s
+pub main_statement : (s : Statement) → is_first_statement s ≡ true → MainStatement s
 main_statement = ind-Statement (λ s. is_first_statement s ≡ true → MainStatement s) (λ b. Unit {0}) (λ x y is. main_layer x) (λ x y is. tt)
 
 result_layer : (l : Statement-F Statement Block) → gives_result (roll-Statement l) ≡ true → ResultStatement (roll-Statement l)
@@ -75,7 +68,7 @@ result_layer (Statement-F.Rtf at v) h = Gives at v (sym (fold-roll-Statement Boo
 result_layer (Statement-F.Return at v) h = never _ (fold-roll-Statement Bool Bool first.result_step first.block_step (Statement-F.Return at v)) h
 result_layer (Statement-F.Empty at) h = never _ (fold-roll-Statement Bool Bool first.result_step first.block_step (Statement-F.Empty at)) h
 
-result_statement : (s : Statement) → gives_result s ≡ true → ResultStatement s
+pub result_statement : (s : Statement) → gives_result s ≡ true → ResultStatement s
 result_statement = ind-Statement (λ s. gives_result s ≡ true → ResultStatement s) (λ b. Unit {0}) (λ x y is. result_layer x) (λ x y is. tt)
 
 abbrev print_parts : List Expression → List Reads
@@ -103,13 +96,13 @@ print_or_type (type.Int at) e h k = let same = one_first e h k in absurd cc
 print_or_type (type.Bool at) e h k = let same = one_first e h k in absurd cc
 print_or_type (type.Named at n) e h k = let same = one_first e h k in absurd cc
 
-print_starts : (at : At) (es : List Expression) {r x : Rest} → Reading (node at (chain (print_parts es))) r x → Heads (kind.Keyword word.Print) r
+pub print_starts : (at : At) (es : List Expression) {r x : Rest} → Reading (node at (chain (print_parts es))) r x → Heads (kind.Keyword word.Print) r
 print_starts at es h = record { first = (took_first (took_keyword word.Print (parts at (print_parts es) h).1)).first }
 
-declare_starts : (at : At) (l : Local) {r x : Rest} → Reading (node at (chain (declare_parts l))) r x → Heads (type_head l.type_name) r
+pub declare_starts : (at : At) (l : Local) {r x : Rest} → Reading (node at (chain (declare_parts l))) r x → Heads (type_head l.type_name) r
 declare_starts at l h = record { first = (local_starts l (parts at (declare_parts l) h).1).first }
 
-one_print : (at bt : At) (es fs : List Expression) → list_all is_first_expression es ≡ true → list_all is_first_expression fs ≡ true → {r s x y : Rest} → r ≡ s
+pub one_print : (at bt : At) (es fs : List Expression) → list_all is_first_expression es ≡ true → list_all is_first_expression fs ≡ true → {r s x y : Rest} → r ≡ s
     → Reading (node at (chain (print_parts es))) r x → Reading (node bt (chain (print_parts fs))) s y → ◌≡◌ {A = Layer} (Statement-F.Print at es) (Statement-F.Print bt fs) × (x ≡ y)
 one_print at bt es fs p q i h k =
     let u = parts at (print_parts es) h in
@@ -118,12 +111,12 @@ one_print at bt es fs p q i h k =
     let close = u.2.2.2.1 in
     let other = v.2.2.2.1 in
     let one = one_separated expression_text is_first_expression (λ d e p q r s x y i f g h k. one_expression d e p q i f g h k) es fs p q opened
-        (took_first (took_mark m.CloseParenthesis close)) (took_first (took_mark m.CloseParenthesis other)) u.2.2.1 v.2.2.1 in
+    (took_first (took_mark m.CloseParenthesis close)) (took_first (took_mark m.CloseParenthesis other)) u.2.2.1 v.2.2.1 in
     let end = one_end (one_end one.1 close other) u.2.2.2.2 v.2.2.2.2 in
     let place = one_place at bt (print_parts es) (print_parts fs) i h k end in
     (cc, end)
 
-one_declare : (at bt : At) (l n : Local) → is_first_local l.type_name l.declarators ≡ true → is_first_local n.type_name n.declarators ≡ true → {r s x y : Rest} → r ≡ s
+pub one_declare : (at bt : At) (l n : Local) → is_first_local l.type_name l.declarators ≡ true → is_first_local n.type_name n.declarators ≡ true → {r s x y : Rest} → r ≡ s
     → Reading (node at (chain (declare_parts l))) r x → Reading (node bt (chain (declare_parts n))) s y → ◌≡◌ {A = Layer} (Statement-F.Declare at l) (Statement-F.Declare bt n) × (x ≡ y)
 one_declare at bt l n p q i h k =
     let u = parts at (declare_parts l) h in
@@ -133,7 +126,7 @@ one_declare at bt l n p q i h k =
     let place = one_place at bt (declare_parts l) (declare_parts n) i h k end in
     (cc, end)
 
-one_main : (a b : Statement) → MainStatement a → MainStatement b → {r s x y : Rest} → r ≡ s
+pub one_main : (a b : Statement) → MainStatement a → MainStatement b → {r s x y : Rest} → r ≡ s
     → Reading (statement_text a) r x → Reading (statement_text b) s y → (a ≡ b) × (x ≡ y)
 one_main a b (Declares at l p f) (Declares bt n q g) i h k =
     let one = one_declare at bt l n p q i (told (ap statement_text f ∙ declare_text at l) h) (told (ap statement_text g ∙ declare_text bt n) k) in
@@ -166,7 +159,7 @@ main_or_brace a (Prints at es p f) r x h c =
 
 -- ---- the one statement of a member
 
-one_given : (a b : Statement) → ResultStatement a → ResultStatement b → {r s x y : Rest} → r ≡ s
+pub one_given : (a b : Statement) → ResultStatement a → ResultStatement b → {r s x y : Rest} → r ≡ s
     → Reading (statement_text a) r x → Reading (statement_text b) s y → (a ≡ b) × (x ≡ y)
 one_given a b (Gives at f p is) (Gives bt g q be) i h k =
     let c = told (ap statement_text is ∙ rtf_text at f) h in
@@ -187,9 +180,9 @@ one_given a b (Gives at f p is) (Gives bt g q be) i h k =
 abbrev block_parts : Block → List Reads
 block_parts b = mark m.OpenBrace ∷ each (map statement_text b.statements) ∷ mark_on b.mark_line m.CloseBrace ∷ []
 
-one_block : (a b : Block)
+pub one_block : (a b : Block)
     → ((r s x y : Rest) → r ≡ s → Heads (kind.Mark m.CloseBrace) x → Heads (kind.Mark m.CloseBrace) y
-        → Reading (each (map statement_text a.statements)) r x → Reading (each (map statement_text b.statements)) s y → (a.statements ≡ b.statements) × (x ≡ y))
+    → Reading (each (map statement_text a.statements)) r x → Reading (each (map statement_text b.statements)) s y → (a.statements ≡ b.statements) × (x ≡ y))
     → {r s x y : Rest} → r ≡ s → Reading (block_text a) r x → Reading (block_text b) s y → (a ≡ b) × (x ≡ y)
 one_block a b inner i h k =
     let u = parts a.at (block_parts a) h in
@@ -207,11 +200,11 @@ pub one_main_block : (a b : Block) → list_all is_first_statement a.statements 
     → Reading (block_text a) r x → Reading (block_text b) s y → (a ≡ b) × (x ≡ y)
 one_main_block a b p q i h k =
     one_block a b
-        (λ r s x y i f g h k. one_each statement_text is_first_statement m.CloseBrace (λ a b p q r s x y i h k. one_statement a b p q i h k)
-            (λ a p r x h c. main_or_brace a (main_statement a p) r x h c) a.statements b.statements p q i f g h k)
-        i h k
+    (λ r s x y i f g h k. one_each statement_text is_first_statement m.CloseBrace (λ a b p q r s x y i h k. one_statement a b p q i h k)
+    (λ a p r x h c. main_or_brace a (main_statement a p) r x h c) a.statements b.statements p q i f g h k)
+    i h k
 
-one_results : (vs ws : List Statement) → is_one_result vs ≡ true → is_one_result ws ≡ true → {r s x y : Rest} → r ≡ s
+pub one_results : (vs ws : List Statement) → is_one_result vs ≡ true → is_one_result ws ≡ true → {r s x y : Rest} → r ≡ s
     → Reading (each (map statement_text vs)) r x → Reading (each (map statement_text ws)) s y → (vs ≡ ws) × (x ≡ y)
 one_results (a ∷ []) (b ∷ []) p q i h k =
     let u = in_turn (statement_text a ∷ nothing ∷ []) h in

@@ -1,25 +1,22 @@
 -- Two sums of the first form that are read from one place, and behind which no operator stands, are one.
-use Rattle.std.proofs.Common.{◌≡◌, ℕ, ◌+◌, ℤ, List, [], ◌∷◌, refl, ap, sym, subst, ◌∙◌, arith}
-use Rattle.mpl_ast.specs.declared.expression.Expression.{Expression}
+use Rattle.std.proofs.Common.{◌≡◌, ℕ, ℤ, [], ◌∷◌, refl, ap, sym, ◌∙◌, arith}
 use Rattle.mpl_ast.specs.declared.expression.SumOperator.{SumOperator}
 use Rattle.mpl_ast.specs.declared.expression.SumOperator.TheVariants.{Plus, Minus}
 use Rattle.mpl_ast.specs.declared.place.At.{At}
 use Rattle.mpl_ast.specs.declared.place.Name.{Name}
 use Rattle.mpl_ast.specs.declared.token.Mark.TheVariants as m
 use Rattle.mpl_ast.specs.declared.token.TokenKind.TheVariants as kind
-use Rattle.mpl_mean.specs.ExpressionText.{expression_text, sum_mark}
-use Rattle.mpl_mean.specs.FirstForm.{is_first_expression}
-use Rattle.mpl_mean.specs.Reading.{Rest, Reads, node, name, mark_on, token, is_number}
-use Rattle.mpl_mean.proofs.BothRead.{Heads, Reading, inside, one_first, one_mark_on, one_name, one_number, one_place, parts, reading, took_first, took_name, took_number}
-use Rattle.mpl_mean.proofs.FirstShapes.{shape_of}
-use Rattle.mpl_mean.proofs.FirstTexts.{place_reads, primary_reads, unary_reads, term_reads, sum_reads, relation_reads, equality_reads, conjunction_reads, expression_reads, expression_same}
-use Rattle.mpl_mean.proofs.FirstTrees.{FirstPlace, FirstPrimary, ANumber, APlace, FirstUnary, FirstTerm, OneFactor, Product, FirstSum, OneSummand, Joined, FirstRelation, FirstEquality, FirstConjunction, FirstExpression, expression_tree}
-use Rattle.mpl_mean.proofs.OperatorCount.{HeadsOperand, additions, ahead_ends, ahead_taken, plus_step, pluses_ahead, products, sum_ahead, sum_mark_ahead, sum_starts, term_ahead, times_ahead, times_step, took_place}
+use Rattle.mpl_mean.specs.ExpressionText.{sum_mark}
+use Rattle.mpl_mean.specs.Reading.{Rest, node, name, mark_on, token, is_number}
+use Rattle.mpl_mean.proofs.BothRead.{Heads, Reading, inside, one_first, one_mark_on, one_name, one_number, one_place, parts, took_first, took_number}
+use Rattle.mpl_mean.proofs.FirstTexts.{place_reads, primary_reads, unary_reads, term_reads, sum_reads}
+use Rattle.mpl_mean.proofs.FirstTrees.{FirstPlace, FirstPrimary, ANumber, APlace, FirstUnary, FirstTerm, OneFactor, Product, FirstSum, OneSummand, Joined}
+use Rattle.mpl_mean.proofs.OperatorCount.{additions, ahead_ends, ahead_taken, plus_step, pluses_ahead, products, sum_ahead, sum_mark_ahead, term_ahead, times_ahead, times_step, took_place}
 use Rattle.mpl_mean.proofs.BothRead.{took_mark_on}
 
 -- ---- operands
 
-one_place_read : (p q : FirstPlace) {r s x y : Rest} → r ≡ s → Reading (place_reads p) r x → Reading (place_reads q) s y → (p ≡ q) × (x ≡ y)
+pub one_place_read : (p q : FirstPlace) {r s x y : Rest} → r ≡ s → Reading (place_reads p) r x → Reading (place_reads q) s y → (p ≡ q) × (x ≡ y)
 one_place_read p q e h k =
     let ps = node p.target_at (name p.variable) ∷ [] in
     let qs = node q.target_at (name q.variable) ∷ [] in
@@ -37,7 +34,7 @@ number_or_place value p e h k =
     let same = one_first e (took_first (took_number value h)) (took_first (took_place p k)) in
     absurd cc
 
-one_primary : (p q : FirstPrimary) {r s x y : Rest} → r ≡ s → Reading (primary_reads p) r x → Reading (primary_reads q) s y → (p ≡ q) × (x ≡ y)
+pub one_primary : (p q : FirstPrimary) {r s x y : Rest} → r ≡ s → Reading (primary_reads p) r x → Reading (primary_reads q) s y → (p ≡ q) × (x ≡ y)
 one_primary (ANumber at n) (ANumber bt o) e h k =
     let ps = token (λ t. is_number n t.kind) ∷ [] in
     let qs = token (λ t. is_number o t.kind) ∷ [] in
@@ -53,7 +50,7 @@ one_primary (ANumber at n) (APlace bt q) e h k =
 one_primary (APlace at p) (ANumber bt o) e h k =
     absurd (number_or_place o p (ap inside (sym e)) (parts bt (token (λ t. is_number o t.kind) ∷ []) k) (parts at (place_reads p ∷ []) h))
 
-one_unary : (u v : FirstUnary) {r s x y : Rest} → r ≡ s → Reading (unary_reads u) r x → Reading (unary_reads v) s y → (u ≡ v) × (x ≡ y)
+pub one_unary : (u v : FirstUnary) {r s x y : Rest} → r ≡ s → Reading (unary_reads u) r x → Reading (unary_reads v) s y → (u ≡ v) × (x ≡ y)
 one_unary u v e h k =
     let ps = primary_reads u.primary ∷ [] in
     let qs = primary_reads v.primary ∷ [] in
@@ -64,7 +61,7 @@ one_unary u v e h k =
 
 -- ---- terms: two of as many operators are one
 
-one_term : (t u : FirstTerm) {r s x y : Rest} → r ≡ s → products t ≡ products u → Reading (term_reads t) r x → Reading (term_reads u) s y → (t ≡ u) × (x ≡ y)
+pub one_term : (t u : FirstTerm) {r s x y : Rest} → r ≡ s → products t ≡ products u → Reading (term_reads t) r x → Reading (term_reads u) s y → (t ≡ u) × (x ≡ y)
 one_term (OneFactor at a) (OneFactor bt b) e n h k =
     let p = one_unary a b (ap inside e) (parts at (unary_reads a ∷ []) h) (parts bt (unary_reads b ∷ []) k) in
     let place = one_place at bt (unary_reads a ∷ []) (unary_reads b ∷ []) e h k p.1 in
@@ -90,7 +87,7 @@ as_many_products t u e h k f g =
 
 -- ---- sums
 
-sum_mark_same : (o p : SumOperator) → sum_mark o ≡ sum_mark p → o ≡ p
+pub sum_mark_same : (o p : SumOperator) → sum_mark o ≡ sum_mark p → o ≡ p
 sum_mark_same Plus Plus e = refl
 sum_mark_same Minus Minus e = refl
 sum_mark_same Plus Minus e = absurd cc
@@ -99,7 +96,7 @@ sum_mark_same Minus Plus e = absurd cc
 before_sum_mark : (line : ℕ) (o : SumOperator) {r x : Rest} → Reading (mark_on line (sum_mark o)) r x → times_ahead r.tokens ≡ 0
 before_sum_mark line o {x = x} h = ahead_taken times_step (took_mark_on line (sum_mark o) h) ∙ (sum_mark_ahead o (times_ahead x.tokens)).0
 
-one_sum : (a b : FirstSum) {r s x y : Rest} → r ≡ s → additions a ≡ additions b → Reading (sum_reads a) r x → Reading (sum_reads b) s y
+pub one_sum : (a b : FirstSum) {r s x y : Rest} → r ≡ s → additions a ≡ additions b → Reading (sum_reads a) r x → Reading (sum_reads b) s y
     → times_ahead x.tokens ≡ 0 → times_ahead y.tokens ≡ 0 → (a ≡ b) × (x ≡ y)
 one_sum (OneSummand at t) (OneSummand bt u) e n h k f g =
     let i = ap inside e in

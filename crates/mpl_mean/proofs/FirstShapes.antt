@@ -14,7 +14,7 @@ use Rattle.mpl_ast.specs.declared.expression.Target.TheVariants.{Variable, Field
 use Rattle.mpl_ast.specs.declared.expression.TermOperator.TheVariants as term
 use Rattle.mpl_mean.specs.FirstForm.{is_first_conjunction, is_first_equality, is_first_expression, is_first_place, is_first_primary, is_first_relation, is_first_sum, is_first_term, is_first_unary}
 use Rattle.mpl_mean.specs.FirstForm as first
-use Rattle.mpl_mean.proofs.BothRead.{both_hold}
+use Rattle.mpl_mean.proofs.FirstExpressions.{both_true}
 use Rattle.mpl_mean.proofs.FirstTrees.{FirstPlace, FirstPrimary, ANumber, APlace, FirstUnary, FirstTerm, OneFactor, Product, FirstSum, OneSummand, Joined, FirstRelation, FirstEquality, FirstConjunction, FirstExpression, place_tree, primary_tree, unary_tree, term_tree, sum_tree, relation_tree, equality_tree, conjunction_tree, expression_tree}
 
 abbrev Good-Conjunction : Conjunction → Type 0
@@ -152,7 +152,7 @@ sum_layer : (y : Sum-F With-Conjunction With-Equality With-Expression With-Place
     → Good-Sum (roll-Sum (map-Sum With-Conjunction With-Equality With-Expression With-Place With-Primary With-Relation With-Sum With-Term With-Unary Conjunction Equality Expression Place Primary Relation Sum Term Unary (λ e. e.0) (λ e. e.0) (λ e. e.0) (λ e. e.0) (λ e. e.0) (λ e. e.0) (λ e. e.0) (λ e. e.0) (λ e. e.0) y))
 sum_layer (Sum-F.OneTerm at e) = λ h. let p = e.1 (opened-Sum (Sum-F.OneTerm at e.0) h) in (OneSummand at p.0, ap (λ t. roll-Sum (Sum-F.OneTerm at t)) p.1)
 sum_layer (Sum-F.Add at line e o f) = λ h.
-    let b = both_hold (is_first_sum e.0) (is_first_term f.0) (opened-Sum (Sum-F.Add at line e.0 o f.0) h) in
+    let b = both_true (is_first_sum e.0) (is_first_term f.0) (opened-Sum (Sum-F.Add at line e.0 o f.0) h) in
     let p = e.1 b.0 in
     let q = f.1 b.1 in
     (Joined at line p.0 o q.0, ap (λ t. roll-Sum (Sum-F.Add at line t o (term_tree q.0))) p.1 ∙ ap (λ t. roll-Sum (Sum-F.Add at line e.0 o t)) q.1)
@@ -161,16 +161,16 @@ term_layer : (y : Term-F With-Conjunction With-Equality With-Expression With-Pla
     → Good-Term (roll-Term (map-Term With-Conjunction With-Equality With-Expression With-Place With-Primary With-Relation With-Sum With-Term With-Unary Conjunction Equality Expression Place Primary Relation Sum Term Unary (λ e. e.0) (λ e. e.0) (λ e. e.0) (λ e. e.0) (λ e. e.0) (λ e. e.0) (λ e. e.0) (λ e. e.0) (λ e. e.0) y))
 term_layer (Term-F.OneUnary at e) = λ h. let p = e.1 (opened-Term (Term-F.OneUnary at e.0) h) in (OneFactor at p.0, ap (λ t. roll-Term (Term-F.OneUnary at t)) p.1)
 term_layer (Term-F.Multiply at line e term.Times f) = λ h.
-    let b = both_hold (is_first_term e.0 && true) (is_first_unary f.0) (opened-Term (Term-F.Multiply at line e.0 term.Times f.0) h) in
-    let p = e.1 (both_hold (is_first_term e.0) true b.0).0 in
+    let b = both_true (is_first_term e.0 && true) (is_first_unary f.0) (opened-Term (Term-F.Multiply at line e.0 term.Times f.0) h) in
+    let p = e.1 (both_true (is_first_term e.0) true b.0).0 in
     let q = f.1 b.1 in
     (Product at line p.0 q.0, ap (λ t. roll-Term (Term-F.Multiply at line t term.Times (unary_tree q.0))) p.1 ∙ ap (λ t. roll-Term (Term-F.Multiply at line e.0 term.Times t)) q.1)
 term_layer (Term-F.Multiply at line e term.Over f) = λ h.
-    let b = both_hold (is_first_term e.0 && false) (is_first_unary f.0) (opened-Term (Term-F.Multiply at line e.0 term.Over f.0) h) in
-    absurd (true≢false (sym (both_hold (is_first_term e.0) false b.0).1))
+    let b = both_true (is_first_term e.0 && false) (is_first_unary f.0) (opened-Term (Term-F.Multiply at line e.0 term.Over f.0) h) in
+    absurd (true≢false (sym (both_true (is_first_term e.0) false b.0).1))
 term_layer (Term-F.Multiply at line e term.Modulo f) = λ h.
-    let b = both_hold (is_first_term e.0 && false) (is_first_unary f.0) (opened-Term (Term-F.Multiply at line e.0 term.Modulo f.0) h) in
-    absurd (true≢false (sym (both_hold (is_first_term e.0) false b.0).1))
+    let b = both_true (is_first_term e.0 && false) (is_first_unary f.0) (opened-Term (Term-F.Multiply at line e.0 term.Modulo f.0) h) in
+    absurd (true≢false (sym (both_true (is_first_term e.0) false b.0).1))
 
 unary_layer : (y : Unary-F With-Conjunction With-Equality With-Expression With-Place With-Primary With-Relation With-Sum With-Term With-Unary)
     → Good-Unary (roll-Unary (map-Unary With-Conjunction With-Equality With-Expression With-Place With-Primary With-Relation With-Sum With-Term With-Unary Conjunction Equality Expression Place Primary Relation Sum Term Unary (λ e. e.0) (λ e. e.0) (λ e. e.0) (λ e. e.0) (λ e. e.0) (λ e. e.0) (λ e. e.0) (λ e. e.0) (λ e. e.0) y))

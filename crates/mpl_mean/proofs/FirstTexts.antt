@@ -1,5 +1,5 @@
 -- The tokens of expressions of the first form, as plain data has them.
-use Rattle.std.proofs.Common.{◌≡◌, ap, refl, ◌∙◌}
+use Rattle.std.proofs.Common.{◌≡◌, refl}
 use Rattle.mpl_ast.specs.declared.expression.Conjunction.{Conjunction, fold-Conjunction, fold-roll-Conjunction}
 use Rattle.mpl_ast.specs.declared.expression.Equality.{Equality, fold-Equality, fold-roll-Equality}
 use Rattle.mpl_ast.specs.declared.expression.Expression.{fold-roll-Expression}
@@ -10,9 +10,9 @@ use Rattle.mpl_ast.specs.declared.expression.Sum.{Sum, fold-Sum, fold-roll-Sum}
 use Rattle.mpl_ast.specs.declared.expression.Term.{Term, fold-Term, fold-roll-Term}
 use Rattle.mpl_ast.specs.declared.expression.Unary.{Unary, fold-Unary, fold-roll-Unary}
 use Rattle.mpl_ast.specs.declared.token.Mark.TheVariants as m
-use Rattle.mpl_mean.specs.ExpressionText.{conjunction_step, equality_step, expression_step, place_step, primary_step, relation_step, sum_step, term_step, unary_step, expression_text, place_text, sum_mark}
+use Rattle.mpl_mean.specs.ExpressionText.{conjunction_step, equality_step, expression_step, place_step, primary_step, relation_step, sum_step, term_step, unary_step, expression_text, sum_mark}
 use Rattle.mpl_mean.specs.Reading.{Reads, ◌>>◌, node, name, token, mark_on, is_number}
-use Rattle.mpl_mean.proofs.FirstTrees.{FirstPlace, FirstPrimary, ANumber, APlace, FirstUnary, FirstTerm, OneFactor, Product, FirstSum, OneSummand, Joined, FirstRelation, FirstEquality, FirstConjunction, FirstExpression, place_tree, primary_tree, unary_tree, term_tree, sum_tree, relation_tree, equality_tree, conjunction_tree, expression_tree}
+use Rattle.mpl_mean.proofs.FirstTrees.{FirstPlace, FirstPrimary, ANumber, APlace, FirstUnary, FirstTerm, OneFactor, Product, FirstSum, OneSummand, Joined, FirstRelation, FirstEquality, FirstConjunction, FirstExpression, primary_tree, term_tree, sum_tree, expression_tree}
 
 -- ---- the texts of the levels of an expression
 
@@ -80,15 +80,15 @@ expression_reads e = node e.at (conjunction_reads e.conjunction)
 
 ruleset layers = (fold-roll-Expression, fold-roll-Conjunction, fold-roll-Equality, fold-roll-Relation, fold-roll-Sum, fold-roll-Term, fold-roll-Unary, fold-roll-Primary, fold-roll-Place)
 
-primary_same : (p : FirstPrimary) → primary_text (primary_tree p) ≡ primary_reads p
+pub primary_same : (p : FirstPrimary) → primary_text (primary_tree p) ≡ primary_reads p
 primary_same (ANumber at value) = simp layers refl
 primary_same (APlace at place) = simp layers refl
 
-term_same : (t : FirstTerm) → term_text (term_tree t) ≡ term_reads t
+pub term_same : (t : FirstTerm) → term_text (term_tree t) ≡ term_reads t
 term_same (OneFactor at u) = simp (layers, primary_same u.primary) refl
 term_same (Product at line t u) = simp (layers, term_same t, primary_same u.primary) refl
 
-sum_same : (s : FirstSum) → sum_text (sum_tree s) ≡ sum_reads s
+pub sum_same : (s : FirstSum) → sum_text (sum_tree s) ≡ sum_reads s
 sum_same (OneSummand at t) = simp (layers, term_same t) refl
 sum_same (Joined at line s o t) = simp (layers, sum_same s, term_same t) refl
 

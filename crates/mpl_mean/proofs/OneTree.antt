@@ -1,5 +1,5 @@
 -- Two programs of the first form that have the same tokens are one.
-use Rattle.std.proofs.Common.{◌≡◌, Bool, true, false, ◌&&◌, ◌==◌, List, [], ◌∷◌, map, Option, Some, None, if◌then◌else◌, codes, refl, ap, sym, ◌∙◌, true≢false}
+use Rattle.std.proofs.Common.{◌≡◌, true, ◌&&◌, List, [], ◌∷◌, map, Option, Some, None, codes, refl, ap, sym, ◌∙◌, true≢false}
 use Rattle.std.specs.List.{list_all}
 use Rattle.std.specs.Option.{option_map}
 use Rattle.std.specs.Str.{bytes_eq}
@@ -15,13 +15,13 @@ use Rattle.mpl_ast.specs.declared.statement.TypeName.TheVariants as type
 use Rattle.mpl_ast.specs.declared.token.Keyword.TheVariants as word
 use Rattle.mpl_ast.specs.declared.token.Mark.TheVariants as m
 use Rattle.mpl_ast.specs.declared.token.Token.{Token}
-use Rattle.mpl_ast.specs.declared.token.TokenKind.{TokenKind}
 use Rattle.mpl_ast.specs.declared.token.TokenKind.TheVariants as kind
-use Rattle.mpl_mean.specs.FirstForm.{are_first, are_ints, is_class, is_first_form, is_first_statement, is_int, is_main, is_without_formals}
+use Rattle.mpl_mean.specs.FirstForm.{are_first, is_class, is_first_form, is_first_statement, is_int, is_main, is_without_formals}
 use Rattle.mpl_mean.specs.ProgramText.{all_of, declaration_text, formals_text, nothing_left, program_text, spells}
 use Rattle.mpl_mean.specs.Reading.{Reads, Rest, each, mark, name, node, nothing, optional}
 use Rattle.mpl_mean.specs.StatementText.{block_text, type_text}
-use Rattle.mpl_mean.proofs.BothRead.{Heads, Reading, both_hold, chain, if_read, in_turn, inside, one_end, one_first, one_name, one_place, parts, reading}
+use Rattle.mpl_mean.proofs.BothRead.{Heads, Reading, chain, if_read, in_turn, inside, one_end, one_first, one_name, one_place, parts, reading}
+use Rattle.mpl_mean.proofs.FirstExpressions.{both_true}
 use Rattle.mpl_mean.proofs.BothReadClasses.{class_starts, one_class}
 use Rattle.mpl_mean.proofs.BothReadLocals.{one_type, type_starts}
 use Rattle.mpl_mean.proofs.BothReadStatements.{one_main_block}
@@ -33,22 +33,22 @@ main_parts t n f b =
     type_text t ∷ name n ∷ mark m.OpenParenthesis ∷ optional (option_map formals_text f) ∷ mark m.CloseParenthesis ∷ block_text b ∷ []
 
 -- what `is_main` asks of its parts
-record IsMain (t : TypeName) (f : Option Formals) (b : Block) : Type 0 where
-  int : is_int t ≡ true
-  formals : is_without_formals f ≡ true
-  body : list_all is_first_statement b.statements ≡ true
+pub record IsMain (t : TypeName) (f : Option Formals) (b : Block) : Type 0 where
+  pub int : is_int t ≡ true
+  pub formals : is_without_formals f ≡ true
+  pub body : list_all is_first_statement b.statements ≡ true
 
 main_holds : (at : At) (t : TypeName) (n : Name) (f : Option Formals) (b : Block) → is_main (declaration.Function at t n f b) ≡ true → IsMain t f b
 main_holds at t n f b h =
-    let p = both_hold (is_int t && bytes_eq n.text (codes "main") && is_without_formals f) (list_all is_first_statement b.statements) h in
-    let q = both_hold (is_int t && bytes_eq n.text (codes "main")) (is_without_formals f) p.0 in
-    record { int = (both_hold (is_int t) (bytes_eq n.text (codes "main")) q.0).0; formals = q.1; body = p.1 }
+    let p = both_true (is_int t && bytes_eq n.text (codes "main") && is_without_formals f) (list_all is_first_statement b.statements) h in
+    let q = both_true (is_int t && bytes_eq n.text (codes "main")) (is_without_formals f) p.0 in
+    record { int = (both_true (is_int t) (bytes_eq n.text (codes "main")) q.0).0; formals = q.1; body = p.1 }
 
 no_formals : (f : Option Formals) → is_without_formals f ≡ true → f ≡ None
 no_formals None h = refl
 no_formals (Some f) h = absurd (true≢false (sym h))
 
-one_main : (a b : Declaration) → is_main a ≡ true → is_main b ≡ true → {r s x y : Rest} → r ≡ s
+pub one_main : (a b : Declaration) → is_main a ≡ true → is_main b ≡ true → {r s x y : Rest} → r ≡ s
     → Reading (declaration_text a) r x → Reading (declaration_text b) s y → (a ≡ b) × (x ≡ y)
 one_main (declaration.Function at t n None body) (declaration.Function bt u o None other) p q i h k =
     let ps = main_parts t n None body in
@@ -71,7 +71,7 @@ one_main (declaration.Class at line kind n items) b p q i h k = absurd (true≢f
 one_main (declaration.Function at t n None body) (declaration.Struct bt other o fields) p q i h k = absurd (true≢false (sym q))
 one_main (declaration.Function at t n None body) (declaration.Class bt other kind o items) p q i h k = absurd (true≢false (sym q))
 
-main_starts : (a : Declaration) → is_main a ≡ true → {r x : Rest} → Reading (declaration_text a) r x → Heads (kind.Keyword word.Int) r
+pub main_starts : (a : Declaration) → is_main a ≡ true → {r x : Rest} → Reading (declaration_text a) r x → Heads (kind.Keyword word.Int) r
 main_starts (declaration.Function at (type.Int bt) n f body) p h = record { first = (type_starts (type.Int bt) (parts at (main_parts (type.Int bt) n f body) h).1).first }
 main_starts (declaration.Function at (type.Bool bt) n f body) p h = absurd (true≢false (sym (main_holds at (type.Bool bt) n f body p).int))
 main_starts (declaration.Function at (type.Named bt o) n f body) p h = absurd (true≢false (sym (main_holds at (type.Named bt o) n f body p).int))
@@ -86,7 +86,7 @@ declarations_text ds = each (map declaration_text ds)
 class_or_main : {A : Type 0} (c d : Declaration) → is_class c ≡ true → is_main d ≡ true → {r s x y : Rest} → r ≡ s → Reading (declaration_text c) r x → Reading (declaration_text d) s y → A
 class_or_main c d p q i h k = let same = one_first i (class_starts c p h) (main_starts d q k) in absurd cc
 
-one_program : (ds es : List Declaration) → are_first ds ≡ true → are_first es ≡ true → {r s x y : Rest} → r ≡ s
+pub one_program : (ds es : List Declaration) → are_first ds ≡ true → are_first es ≡ true → {r s x y : Rest} → r ≡ s
     → Reading (declarations_text ds) r x → Reading (declarations_text es) s y → (ds ≡ es) × (x ≡ y)
 one_program (d ∷ []) (e ∷ []) p q i h k =
     let u = in_turn (declaration_text d ∷ nothing ∷ []) h in
@@ -94,8 +94,8 @@ one_program (d ∷ []) (e ∷ []) p q i h k =
     let one = one_main d e p q i u.1 v.1 in
     (ap (λ z. z ∷ []) one.0, one_end one.1 u.2 v.2)
 one_program (c ∷ d ∷ ds) (e ∷ f ∷ es) p q i h k =
-    let a = both_hold (is_class c) (are_first (d ∷ ds)) p in
-    let b = both_hold (is_class e) (are_first (f ∷ es)) q in
+    let a = both_true (is_class c) (are_first (d ∷ ds)) p in
+    let b = both_true (is_class e) (are_first (f ∷ es)) q in
     let u = in_turn (declaration_text c ∷ declarations_text (d ∷ ds) ∷ []) h in
     let v = in_turn (declaration_text e ∷ declarations_text (f ∷ es) ∷ []) k in
     let first = one_class c e a.0 b.0 i u.1 v.1 in
@@ -104,11 +104,11 @@ one_program (c ∷ d ∷ ds) (e ∷ f ∷ es) p q i h k =
 one_program (c ∷ d ∷ ds) (e ∷ []) p q i h k =
     let u = in_turn (declaration_text c ∷ declarations_text (d ∷ ds) ∷ []) h in
     let v = in_turn (declaration_text e ∷ nothing ∷ []) k in
-    class_or_main c e (both_hold (is_class c) (are_first (d ∷ ds)) p).0 q i u.1 v.1
+    class_or_main c e (both_true (is_class c) (are_first (d ∷ ds)) p).0 q i u.1 v.1
 one_program (d ∷ []) (e ∷ f ∷ es) p q i h k =
     let u = in_turn (declaration_text d ∷ nothing ∷ []) h in
     let v = in_turn (declaration_text e ∷ declarations_text (f ∷ es) ∷ []) k in
-    class_or_main e d (both_hold (is_class e) (are_first (f ∷ es)) q).0 p (sym i) v.1 u.1
+    class_or_main e d (both_true (is_class e) (are_first (f ∷ es)) q).0 p (sym i) v.1 u.1
 one_program [] es p q i h k = absurd (true≢false (sym p))
 one_program (d ∷ []) [] p q i h k = absurd (true≢false (sym q))
 one_program (d ∷ e ∷ ds) [] p q i h k = absurd (true≢false (sym q))
@@ -122,7 +122,7 @@ no_tokens (d ∷ []) p h =
     let first = (main_starts d p (in_turn (declaration_text d ∷ nothing ∷ []) h).1).first in
     absurd cc
 no_tokens (d ∷ e ∷ ds) p h =
-    let first = (class_starts d (both_hold (is_class d) (are_first (e ∷ ds)) p).0 (in_turn (declaration_text d ∷ declarations_text (e ∷ ds) ∷ []) h).1).first in
+    let first = (class_starts d (both_true (is_class d) (are_first (e ∷ ds)) p).0 (in_turn (declaration_text d ∷ declarations_text (e ∷ ds) ∷ []) h).1).first in
     absurd cc
 
 left_after : (o : Option Rest) → nothing_left o ≡ true → (x : Rest) × (o ≡ Some x)

@@ -1,9 +1,7 @@
 -- How many operators stand ahead, and how many of them an expression takes.
-use Rattle.std.proofs.Common.{◌≡◌, ◌⊎◌, inl, inr, ℕ, ◌+◌, ℤ, ◌&&◌, ◌==◌, List, [], ◌∷◌, Some, refl, ap, sym, ◌∙◌, arith}
+use Rattle.std.proofs.Common.{◌≡◌, ℕ, ◌+◌, ℤ, List, [], ◌∷◌, Some, refl, ap, ◌∙◌, arith}
 use Rattle.mpl_ast.specs.declared.expression.SumOperator.{SumOperator}
 use Rattle.mpl_ast.specs.declared.expression.SumOperator.TheVariants.{Plus, Minus}
-use Rattle.mpl_ast.specs.declared.place.At.{At}
-use Rattle.mpl_ast.specs.declared.token.Mark.{Mark}
 use Rattle.mpl_ast.specs.declared.token.Mark.TheVariants as m
 use Rattle.mpl_ast.specs.declared.token.Token.{Token}
 use Rattle.mpl_ast.specs.declared.token.TokenKind.{TokenKind}
@@ -27,7 +25,7 @@ took_place p h =
     let t = took_name n (parts p.target_at (name n ∷ []) (parts p.at (node p.target_at (name n) ∷ []) h)) in
     record { token = t.token; first = t.first; kind = t.kind }
 
-took_primary : (p : FirstPrimary) {r x : Rest} → Reading (primary_reads p) r x → (k : TokenKind) × IsOperand k × Took k r x
+pub took_primary : (p : FirstPrimary) {r x : Rest} → Reading (primary_reads p) r x → (k : TokenKind) × IsOperand k × Took k r x
 took_primary (ANumber at value) h =
     let t = took_number value (parts at (token (λ t. is_number value t.kind) ∷ []) h) in
     (kind.Number value, ForNumber value, record { token = t.token; first = t.first; kind = t.kind })
@@ -36,7 +34,7 @@ took_primary (APlace at place) h =
     (kind.Name place.variable.text, ForName place.variable.text, record { token = t.token; first = t.first; kind = t.kind })
 
 -- an operand takes one token
-took_unary : (u : FirstUnary) {r x : Rest} → Reading (unary_reads u) r x → (k : TokenKind) × IsOperand k × Took k r x
+pub took_unary : (u : FirstUnary) {r x : Rest} → Reading (unary_reads u) r x → (k : TokenKind) × IsOperand k × Took k r x
 took_unary u h =
     let t = took_primary u.primary (parts u.at (primary_reads u.primary ∷ []) h) in
     (t.0, t.1, record { token = t.2.token; first = t.2.first; kind = t.2.kind })
@@ -84,16 +82,15 @@ abbrev pub additions : FirstSum → ℕ
 additions (OneSummand at t) = 0
 additions (Joined at line s o t) = additions s + 1
 
-operand_ahead : (k : TokenKind) → IsOperand k → (n : ℕ) → (times_step k n ≡ n) × (plus_step k n ≡ n)
+pub operand_ahead : (k : TokenKind) → IsOperand k → (n : ℕ) → (times_step k n ≡ n) × (plus_step k n ≡ n)
 operand_ahead other (ForName text) n = (refl, refl)
 operand_ahead other (ForNumber value) n = (refl, refl)
 
-unary_ahead : (u : FirstUnary) {r x : Rest} → Reading (unary_reads u) r x → (times_ahead r.tokens ≡ times_ahead x.tokens) × (pluses_ahead r.tokens ≡ pluses_ahead x.tokens)
+pub unary_ahead : (u : FirstUnary) {r x : Rest} → Reading (unary_reads u) r x → (times_ahead r.tokens ≡ times_ahead x.tokens) × (pluses_ahead r.tokens ≡ pluses_ahead x.tokens)
 unary_ahead u {x = x} h =
-    let t = took_unary u h in
-    (
-        ahead_taken times_step t.2 ∙ (operand_ahead t.0 t.1 (times_ahead x.tokens)).0,
-        ahead_taken plus_step t.2 ∙ (operand_ahead t.0 t.1 (pluses_ahead x.tokens)).1,
+    let t = took_unary u h in (
+      ahead_taken times_step t.2 ∙ (operand_ahead t.0 t.1 (times_ahead x.tokens)).0,
+      ahead_taken plus_step t.2 ∙ (operand_ahead t.0 t.1 (pluses_ahead x.tokens)).1,
     )
 
 pub term_ahead : (t : FirstTerm) {r x : Rest} → Reading (term_reads t) r x
@@ -131,7 +128,7 @@ pub record HeadsOperand (r : Rest) : Type 0 where
   pub operand : IsOperand kind
   pub first : Heads kind r
 
-term_starts : (t : FirstTerm) {r x : Rest} → Reading (term_reads t) r x → HeadsOperand r
+pub term_starts : (t : FirstTerm) {r x : Rest} → Reading (term_reads t) r x → HeadsOperand r
 term_starts (OneFactor at u) h =
     let t = took_unary u (parts at (unary_reads u ∷ []) h) in
     record { kind = t.0; operand = t.1; first = record { first = (took_first t.2).first } }
