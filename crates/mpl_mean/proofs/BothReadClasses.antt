@@ -24,7 +24,8 @@ use Rattle.mpl_mean.specs.FirstForm.{are_ints, is_class, is_first_item, is_int, 
 use Rattle.mpl_mean.specs.ProgramText.{declaration_text, formal_text, formals_text, item_text, kind_text, result_text}
 use Rattle.mpl_mean.specs.Reading.{Reads, Rest, after_first, each, keyword, mark, mark_on, name, optional, separated}
 use Rattle.mpl_mean.specs.StatementText.{block_text, type_text}
-use Rattle.mpl_mean.proofs.BothRead.{Heads, Reading, in_turn, inside, one_end, one_first, one_mark_on, one_name, one_place, parts, some_same, took_first, took_keyword, took_mark, took_mark_on}
+use Rattle.mpl_mean.proofs.BothRead.{Reading, in_turn, inside, one_end, one_place, parts, some_same}
+use Rattle.mpl_mean.proofs.BothReadTokens.{Heads, one_first, one_mark_on, one_name, took_first, took_keyword, took_mark, took_mark_on}
 use Rattle.mpl_mean.proofs.FirstExpressions.{both_true}
 use Rattle.mpl_mean.proofs.BothReadLists.{moved, one_each, one_separated}
 use Rattle.mpl_mean.proofs.BothReadLocals.{one_type, type_head, type_starts}
@@ -149,20 +150,20 @@ class_parts line kind class items =
 
 pub one_class : (a b : Declaration) → is_class a ≡ true → is_class b ≡ true → {r s x y : Rest} → r ≡ s
     → Reading (declaration_text a) r x → Reading (declaration_text b) s y → (a ≡ b) × (x ≡ y)
-one_class (declaration.Class at line kind n items) (declaration.Class bt other king o things) p q i h k =
+one_class (declaration.Class at line kind n items) (declaration.Class bt other sort o others) p q i h k =
     let ps = class_parts line kind n items in
-    let qs = class_parts other king o things in
+    let qs = class_parts other sort o others in
     let a = both_true (is_regular kind) (list_all is_first_item items) p in
-    let b = both_true (is_regular king) (list_all is_first_item things) q in
+    let b = both_true (is_regular sort) (list_all is_first_item others) q in
     let u = parts at ps h in
     let v = parts bt qs k in
-    let regular = one_kind kind king a.0 b.0 (ap inside i) u.1 v.1 in
+    let regular = one_kind kind sort a.0 b.0 (ap inside i) u.1 v.1 in
     let mentat = one_end regular.1 u.2.1 v.2.1 in
     let named = one_name n o (one_end mentat u.2.2.1 v.2.2.1) u.2.2.2.1 v.2.2.2.1 in
     let opened = one_end named.1 u.2.2.2.2.1 v.2.2.2.2.1 in
     let close = u.2.2.2.2.2.2.1 in
     let closed = v.2.2.2.2.2.2.1 in
-    let inner = one_each item_text is_first_item m.CloseBrace (λ a b p q r s x y i h k. one_item a b p q i h k) item_or_brace items things a.1 b.1 opened
+    let inner = one_each item_text is_first_item m.CloseBrace (λ a b p q r s x y i h k. one_item a b p q i h k) item_or_brace items others a.1 b.1 opened
     (took_first (took_mark_on line m.CloseBrace close)) (took_first (took_mark_on other m.CloseBrace closed)) u.2.2.2.2.2.1 v.2.2.2.2.2.1 in
     let brace = one_mark_on line other m.CloseBrace m.CloseBrace inner.1 close closed in
     let end = one_end brace.2 u.2.2.2.2.2.2.2 v.2.2.2.2.2.2.2 in

@@ -8,7 +8,8 @@ use Rattle.mpl_ast.specs.declared.token.TokenKind.TheVariants as kind
 use Rattle.mpl_mean.specs.ExpressionText.{expression_text}
 use Rattle.mpl_mean.specs.FirstForm.{is_first_expression}
 use Rattle.mpl_mean.specs.Reading.{Rest}
-use Rattle.mpl_mean.proofs.BothRead.{Heads, Reading, inside, one_first, one_place, parts}
+use Rattle.mpl_mean.proofs.BothRead.{Reading, inside, one_place, parts}
+use Rattle.mpl_mean.proofs.BothReadTokens.{Heads, one_first}
 use Rattle.mpl_mean.proofs.BothReadSums.{MayFollow, one_whole_sum}
 use Rattle.mpl_mean.proofs.FirstShapes.{shape_of}
 use Rattle.mpl_mean.proofs.FirstTexts.{sum_reads, relation_reads, equality_reads, conjunction_reads, expression_reads, expression_same}

@@ -16,7 +16,8 @@ use Rattle.mpl_mean.specs.FirstForm.{is_call, is_first_call, is_first_expression
 use Rattle.mpl_mean.specs.FirstForm as first
 use Rattle.mpl_mean.specs.Reading.{Reads, Rest, node, name, mark, separated_if_any}
 use Rattle.mpl_mean.specs.StatementText.{call_step, flow_step, call_text, flow_text}
-use Rattle.mpl_mean.proofs.BothRead.{Heads, Reading, inside, one_end, one_name, one_place, parts, told, took_first, took_mark}
+use Rattle.mpl_mean.proofs.BothRead.{Reading, inside, one_end, one_place, parts, told}
+use Rattle.mpl_mean.proofs.BothReadTokens.{Heads, one_name, took_first, took_mark}
 use Rattle.mpl_mean.proofs.FirstExpressions.{both_true}
 use Rattle.mpl_mean.proofs.BothReadExpressions.{expression_starts, one_expression, operand_or_mark}
 use Rattle.mpl_mean.proofs.BothReadLists.{one_separated_if_any}

@@ -6,7 +6,8 @@ use Rattle.mpl_ast.specs.declared.token.Mark.TheVariants as m
 use Rattle.mpl_ast.specs.declared.token.TokenKind.{TokenKind}
 use Rattle.mpl_ast.specs.declared.token.TokenKind.TheVariants as kind
 use Rattle.mpl_mean.specs.Reading.{Reads, Rest, each, after_first, separated, separated_if_any, mark}
-use Rattle.mpl_mean.proofs.BothRead.{Heads, Reading, head, in_turn, one_end, one_first, some_same, took_first, took_mark}
+use Rattle.mpl_mean.proofs.BothRead.{Reading, in_turn, one_end, some_same}
+use Rattle.mpl_mean.proofs.BothReadTokens.{Heads, head, one_first, took_first, took_mark}
 use Rattle.mpl_mean.proofs.FirstExpressions.{both_true}
 use Rattle.mpl_mean.proofs.BothReadSums.{MayFollow, Closes, Goes}
 

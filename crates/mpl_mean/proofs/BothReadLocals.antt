@@ -15,7 +15,8 @@ use Rattle.mpl_ast.specs.declared.token.TokenKind.TheVariants as kind
 use Rattle.mpl_mean.specs.FirstForm.{is_call, is_first_declarator, is_first_local, is_int, is_named}
 use Rattle.mpl_mean.specs.Reading.{Reads, Rest, name, mark, keyword, nothing, optional, separated}
 use Rattle.mpl_mean.specs.StatementText.{declarator_text, dimension_text, flow_text, local_text, type_text}
-use Rattle.mpl_mean.proofs.BothRead.{Heads, Reading, in_turn, inside, one_end, one_first, one_name, one_place, parts, took_first, took_keyword, took_name}
+use Rattle.mpl_mean.proofs.BothRead.{Reading, in_turn, inside, one_end, one_place, parts}
+use Rattle.mpl_mean.proofs.BothReadTokens.{Heads, one_first, one_name, took_first, took_keyword, took_name}
 use Rattle.mpl_mean.proofs.FirstExpressions.{both_true}
 use Rattle.mpl_mean.proofs.BothReadFlows.{one_kept}
 

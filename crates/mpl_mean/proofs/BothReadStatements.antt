@@ -18,7 +18,8 @@ use Rattle.mpl_mean.specs.FirstForm.{gives_result, is_call, is_first_declarator,
 use Rattle.mpl_mean.specs.FirstForm as first
 use Rattle.mpl_mean.specs.Reading.{Reads, Rest, ◌>>◌, node, mark, mark_on, keyword, each, nothing, separated}
 use Rattle.mpl_mean.specs.StatementText.{StatementText, block_step, block_text, flow_text, local_text, statement_step, statement_text}
-use Rattle.mpl_mean.proofs.BothRead.{Heads, Reading, chain, in_turn, inside, one_end, one_first, one_mark_on, one_place, parts, told, took_first, took_keyword, took_mark, took_mark_on}
+use Rattle.mpl_mean.proofs.BothRead.{Reading, chain, in_turn, inside, one_end, one_place, parts, told}
+use Rattle.mpl_mean.proofs.BothReadTokens.{Heads, one_first, one_mark_on, took_first, took_keyword, took_mark, took_mark_on}
 use Rattle.mpl_mean.proofs.BothReadExpressions.{one_expression}
 use Rattle.mpl_mean.proofs.BothReadFlows.{never, one_flow}
 use Rattle.mpl_mean.proofs.BothReadLists.{one_each, one_separated}
@@ -161,9 +162,9 @@ main_or_brace a (Prints at es p f) r x h c =
 
 pub one_given : (a b : Statement) → ResultStatement a → ResultStatement b → {r s x y : Rest} → r ≡ s
     → Reading (statement_text a) r x → Reading (statement_text b) s y → (a ≡ b) × (x ≡ y)
-one_given a b (Gives at f p is) (Gives bt g q be) i h k =
+one_given a b (Gives at f p is) (Gives bt g q same) i h k =
     let c = told (ap statement_text is ∙ rtf_text at f) h in
-    let d = told (ap statement_text be ∙ rtf_text bt g) k in
+    let d = told (ap statement_text same ∙ rtf_text bt g) k in
     let u = parts at (rtf_parts f) c in
     let v = parts bt (rtf_parts g) d in
     let opened = one_end (one_end (ap inside i) u.1 v.1) u.2.1 v.2.1 in
@@ -173,7 +174,7 @@ one_given a b (Gives at f p is) (Gives bt g q be) i h k =
     let end = one_end (one_end one.1 close other) u.2.2.2.2 v.2.2.2.2 in
     let place = one_place at bt (rtf_parts f) (rtf_parts g) i c d end in
     let layer : ◌≡◌ {A = Layer} (Statement-F.Rtf at f) (Statement-F.Rtf bt g) = cc in
-    (is ∙ ap roll-Statement layer ∙ sym be, end)
+    (is ∙ ap roll-Statement layer ∙ sym same, end)
 
 -- ---- blocks
 

@@ -42,6 +42,7 @@ mod FirstNodes
 mod FirstBodies
 mod FirstPrograms
 pub mod BothRead
+pub mod BothReadTokens
 pub mod FirstTrees
 pub mod FirstTexts
 pub mod FirstShapes

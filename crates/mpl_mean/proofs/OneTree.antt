@@ -20,7 +20,8 @@ use Rattle.mpl_mean.specs.FirstForm.{are_first, is_class, is_first_form, is_firs
 use Rattle.mpl_mean.specs.ProgramText.{all_of, declaration_text, formals_text, nothing_left, program_text, spells}
 use Rattle.mpl_mean.specs.Reading.{Reads, Rest, each, mark, name, node, nothing, optional}
 use Rattle.mpl_mean.specs.StatementText.{block_text, type_text}
-use Rattle.mpl_mean.proofs.BothRead.{Heads, Reading, chain, if_read, in_turn, inside, one_end, one_first, one_name, one_place, parts, reading}
+use Rattle.mpl_mean.proofs.BothRead.{Reading, chain, if_read, in_turn, inside, one_end, one_place, parts, reading}
+use Rattle.mpl_mean.proofs.BothReadTokens.{Heads, one_first, one_name}
 use Rattle.mpl_mean.proofs.FirstExpressions.{both_true}
 use Rattle.mpl_mean.proofs.BothReadClasses.{class_starts, one_class}
 use Rattle.mpl_mean.proofs.BothReadLocals.{one_type, type_starts}

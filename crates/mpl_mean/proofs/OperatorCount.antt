@@ -8,7 +8,8 @@ use Rattle.mpl_ast.specs.declared.token.TokenKind.{TokenKind}
 use Rattle.mpl_ast.specs.declared.token.TokenKind.TheVariants as kind
 use Rattle.mpl_mean.specs.ExpressionText.{sum_mark}
 use Rattle.mpl_mean.specs.Reading.{Rest, node, name, mark_on, token, is_number}
-use Rattle.mpl_mean.proofs.BothRead.{Heads, Reading, Took, head, parts, took_first, took_mark_on, took_name, took_number}
+use Rattle.mpl_mean.proofs.BothRead.{Reading, parts}
+use Rattle.mpl_mean.proofs.BothReadTokens.{Heads, Took, head, took_first, took_mark_on, took_name, took_number}
 use Rattle.mpl_mean.proofs.FirstTexts.{place_reads, primary_reads, unary_reads, term_reads, sum_reads}
 use Rattle.mpl_mean.proofs.FirstTrees.{FirstPlace, FirstPrimary, ANumber, APlace, FirstUnary, FirstTerm, OneFactor, Product, FirstSum, OneSummand, Joined}
 
