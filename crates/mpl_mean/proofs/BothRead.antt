@@ -1,20 +1,11 @@
 -- Two readers that begin at one place: what each step of reading tells of both.
-use Rattle.std.proofs.Common.{◌≡◌, ℕ, ◌+◌, ℤ, Bool, true, false, ◌&&◌, ◌==◌, List, [], ◌∷◌, Option, Some, None, if◌then◌else◌, refl, ap, sym, ◌∙◌, subst}
+use Rattle.std.proofs.Common.{◌≡◌, ℕ, ◌+◌, Bool, true, false, List, [], ◌∷◌, Option, Some, None, if◌then◌else◌, refl, ap, sym, ◌∙◌, subst}
 use Rattle.std.specs.Option.{option_and_then}
-use Rattle.std.proofs.lemmas.Bool.Decides.{Decides-eqb, Decides-int_eq}
-use Rattle.std.proofs.lemmas.Slice.Eq.{bytes_eq-Decides}
-use denote.Enum.Bare.{same_true}
-use Rattle.mpl_ast.specs.contracts.token.Keyword as keywords
-use Rattle.mpl_ast.specs.contracts.token.Mark as marks
+use Rattle.std.proofs.lemmas.Bool.Decides.{Decides-eqb}
 use Rattle.mpl_ast.specs.declared.place.At.{At}
-use Rattle.mpl_ast.specs.declared.place.Name.{Name}
-use Rattle.mpl_ast.specs.declared.token.Keyword.{Keyword}
-use Rattle.mpl_ast.specs.declared.token.Mark.{Mark}
 use Rattle.mpl_ast.specs.declared.token.Token.{Token}
-use Rattle.mpl_ast.specs.declared.token.TokenKind.{TokenKind}
-use Rattle.mpl_ast.specs.declared.token.TokenKind.TheVariants as kind
 use Rattle.mpl_mean.proofs.FirstExpressions.{both_true}
-use Rattle.mpl_mean.specs.Reading.{Reads, Rest, ◌>>◌, nothing, begins, ended, node, token, token_from, mark, mark_on, keyword, name, is_mark, is_keyword, is_name, is_number}
+use Rattle.mpl_mean.specs.Reading.{Reads, Rest, ◌>>◌, nothing, begins, ended, node}
 
 -- ---- one after another
 

@@ -9,7 +9,7 @@ use Rattle.mpl_ast.specs.declared.token.TokenKind.TheVariants as kind
 use Rattle.mpl_mean.specs.ExpressionText.{sum_mark}
 use Rattle.mpl_mean.specs.Reading.{Rest, node, name, mark_on, token, is_number}
 use Rattle.mpl_mean.proofs.BothRead.{Reading, inside, one_place, parts}
-use Rattle.mpl_mean.proofs.BothReadTokens.{Heads, one_first, one_mark_on, one_name, one_number, took_first, took_number}
+use Rattle.mpl_mean.proofs.BothReadTokens.{Heads, one_first, took_mark_on, one_mark_on, one_name, one_number, took_first, took_number}
 use Rattle.mpl_mean.proofs.FirstTexts.{place_reads, primary_reads, unary_reads, term_reads, sum_reads}
 use Rattle.mpl_mean.proofs.FirstTrees.{FirstPlace, FirstPrimary, ANumber, APlace, FirstUnary, FirstTerm, OneFactor, Product, FirstSum, OneSummand, Joined}
 use Rattle.mpl_mean.proofs.OperatorCount.{additions, ahead_ends, ahead_taken, plus_step, pluses_ahead, products, sum_ahead, sum_mark_ahead, term_ahead, times_ahead, times_step, took_place}
