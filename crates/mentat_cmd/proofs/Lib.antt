@@ -4,12 +4,14 @@ pub mod Closing
 pub mod ExpressionTexts
 pub mod Forms
 pub mod Layers
+pub mod Lists
 pub mod Leading
 pub mod Led
 pub mod Lookahead
 pub mod Operands
 mod OutputLemmas
 pub mod Parsed
+pub mod ScopeLemmas
 pub mod Steps
 pub mod Turns
 pub mod Weights

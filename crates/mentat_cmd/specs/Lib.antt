@@ -4,10 +4,12 @@ pub mod Bodies
 pub mod Outline
 pub mod Output
 pub mod Parts
+pub mod PhraseLevels
 pub mod Program
 pub mod Reader
 pub mod Scope
 pub mod Stages
 pub mod StatusNumber
 pub mod Typed
+pub mod Variables
 pub mod Words

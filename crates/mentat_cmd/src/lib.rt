@@ -2,17 +2,24 @@
 #![tactic(auto)]
 
 mod ahead;
+mod bodies;
+mod calls;
+mod check;
 mod class;
 mod command;
 mod expression;
+mod lookup;
+mod outline;
 mod output;
 mod parser;
 mod reader;
 mod run;
+mod scope;
 mod statement;
 mod status;
 #[cfg(test)]
 mod tests;
+mod uses;
 mod words;
 
 pub use command::quiet_command;
