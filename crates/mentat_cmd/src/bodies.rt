@@ -9,7 +9,7 @@ ghost use Rattle.mentat_cmd.specs.Variables.{seen};
 
 use crate::calls::{flow_fits, value_fits};
 use crate::lookup::{formals_of, items_of_type};
-use crate::uses::expression_fits;
+use crate::uses::expressions_fit;
 use crate::scope::{Variable, Variables};
 use mpl_ast::class::Item;
 use mpl_ast::program::Declaration;
@@ -167,10 +167,7 @@ fn statement_fits<'a>(
 {
     match statement {
         Statement::Declare(_, local) => local_fits(declarations, variables, local),
-        Statement::Print(_, arguments) => Ok(arguments
-            .as_slice()
-            .iter()
-            .all(|argument| expression_fits(variables, argument))),
+        Statement::Print(_, arguments) => Ok(expressions_fit(variables, arguments.as_slice())),
         Statement::OfBlock(..)
         | Statement::Assign(..)
         | Statement::CallAlone(..)

@@ -1,6 +1,7 @@
 //! Calls: of a member that there is, with as many numbers as it has formals.
 
 ghost use Rattle.std.specs.Prelude.{◌≡◌};
+ghost use Rattle.std.specs.List.{list_all};
 ghost use Rattle.mpl_ast.specs.declared.flow.Call.{out-Call};
 ghost use Rattle.mpl_ast.specs.declared.flow.Flow.{out-Flow};
 ghost use Rattle.mentat_cmd.specs.Bodies.{call_fits, flow_fits, member_formals, takes, target_can_call, value_fits};
@@ -30,7 +31,7 @@ fn call_fits(variables: &Variables, call: &Call) -> bool
         Call::OnTarget(_, target, member, arguments) => {
             let arguments = arguments.as_slice();
             target_can_call(variables, target, member.text.as_slice(), arguments.len())
-                && arguments.iter().all(|value| flow_fits(variables, value))
+                && arguments_fit(variables, arguments)
         }
         Call::OnOwn(..) => false,
     }
@@ -60,6 +61,12 @@ fn takes(items: &[Item], member: &[u8], count: usize) -> bool
         Some(formals) => count == formals.len(),
         None => false,
     }
+}
+
+fn arguments_fit(variables: &Variables, arguments: &[Flow]) -> bool
+    ensures { result ≡ list_all (flow_fits (seen variables.now)) arguments.now }
+{
+    arguments.iter().all(|value| flow_fits(variables, value))
 }
 
 /// An argument, or the operand of `rtf`.

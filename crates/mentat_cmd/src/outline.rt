@@ -1,6 +1,8 @@
 //! The names and counts of declarations, members and formals.
 
 ghost use Rattle.std.specs.Prelude.{◌≡◌, List, ℕ, map};
+ghost use Rattle.std.specs.List.{list_all, list_any};
+ghost use Rattle.std.specs.Str.{bytes_eq};
 ghost use Rattle.mpl_mean.specs.Scopes as scope;
 ghost use Rattle.mentat_cmd.specs.Outline.{are_distinct, declaration_fits, formals_fit, is_new, member_fits, members_fit, name_of_declaration, name_of_formal, name_of_item, outline_fits};
 
@@ -70,7 +72,13 @@ fn are_distinct<T: Named>(items: &[T]) -> bool
 fn is_new<T: Named>(earlier: &[T], name: &[u8]) -> bool
     ensures { result ≡ is_new (map T.name_of earlier.now) name.now }
 {
-    !earlier.iter().any(|other| is_same(name, other.name()))
+    !is_among(earlier, name)
+}
+
+fn is_among<T: Named>(earlier: &[T], name: &[u8]) -> bool
+    ensures { result ≡ list_any (λ other. bytes_eq name.now (T.name_of other)) earlier.now }
+{
+    earlier.iter().any(|other| is_same(name, other.name()))
 }
 
 /// The declarations of a program.
@@ -79,7 +87,13 @@ pub fn outline_fits(declarations: &[Declaration]) -> bool
 {
     declarations.len() <= MOST_DECLARATIONS
         && are_distinct(declarations)
-        && declarations.iter().all(|declaration| declaration_fits(declaration))
+        && each_fits(declarations)
+}
+
+fn each_fits(declarations: &[Declaration]) -> bool
+    ensures { result ≡ list_all declaration_fits declarations.now }
+{
+    declarations.iter().all(|d| declaration_fits(d))
 }
 
 fn declaration_fits(declaration: &Declaration) -> bool
@@ -103,9 +117,13 @@ fn is_main(name: &[u8]) -> bool
 fn members_fit(items: &[Item]) -> bool
     ensures { result ≡ members_fit items.now }
 {
-    items.len() <= MOST_MEMBERS
-        && are_distinct(items)
-        && items.iter().all(|item| member_fits(item))
+    items.len() <= MOST_MEMBERS && are_distinct(items) && each_member_fits(items)
+}
+
+fn each_member_fits(items: &[Item]) -> bool
+    ensures { result ≡ list_all member_fits items.now }
+{
+    items.iter().all(|item| member_fits(item))
 }
 
 fn member_fits(item: &Item) -> bool

@@ -1,6 +1,7 @@
 //! The variables in an expression, each of which has to be a number.
 
 ghost use Rattle.std.specs.Prelude.{◌≡◌};
+ghost use Rattle.std.specs.List.{list_all};
 ghost use Rattle.mentat_cmd.specs.Bodies.{expression_fits, phrase_fits};
 ghost use Rattle.mentat_cmd.specs.PhraseLevels.{phrase_of_conjunction, phrase_of_equality, phrase_of_primary, phrase_of_relation, phrase_of_sum, phrase_of_term, phrase_of_unary};
 ghost use Rattle.mentat_cmd.specs.Scope.{is_number};
@@ -11,6 +12,12 @@ use crate::scope::{Variable, Variables};
 use mpl_ast::expression::{
     Conjunction, Equality, Expression, Place, Primary, Relation, Sum, Target, Term, Unary,
 };
+
+pub fn expressions_fit(variables: &Variables, expressions: &[Expression]) -> bool
+    ensures { result ≡ list_all (expression_fits (seen variables.now)) expressions.now }
+{
+    expressions.iter().all(|e| expression_fits(variables, e))
+}
 
 pub fn expression_fits(variables: &Variables, node: &Expression) -> bool
     ensures { result ≡ expression_fits (seen variables.now) node.now }
