@@ -16,9 +16,11 @@ pub mod Parsed
 pub mod ScopeLemmas
 pub mod Steps
 pub mod Turns
+pub mod TypedBodies
 pub mod TypedCalls
 pub mod TypedNodes
 pub mod TypedScopes
+pub mod TypedStatements
 pub mod Weights
 pub mod Whole
 pub mod WholeClasses

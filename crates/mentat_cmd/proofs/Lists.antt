@@ -50,3 +50,9 @@ pub no_more : {X : Type 0} (test : X → Bool) (n total : ℕ) (left rest : List
 no_more test n total left rest x next fails all =
     ap (λ (b : Bool). n + length (if b then x ∷ filter test rest else filter test rest)) (sym fails)
     ∙ ap (λ xs. n + length (filter test xs)) (sym next) ∙ all
+
+plus_none : (n : ℕ) → n ≡ n + 0
+plus_none n = omega arith
+
+pub all_counted : {X : Type 0} (test : X → Bool) (n total : ℕ) (left : List X) → left ≡ [] → n + length (filter test left) ≡ total → n ≡ total
+all_counted test n total left none all = plus_none n ∙ ap (λ xs. n + length (filter test xs)) (sym none) ∙ all

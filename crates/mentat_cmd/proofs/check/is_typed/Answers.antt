@@ -1,5 +1,5 @@
 use Rattle.mentat_cmd.proofs.TypedCalls.{call_held}
-use Rattle.mentat_cmd.proofs.TypedScopes.{name_beside}
+use Rattle.mentat_cmd.proofs.TypedBodies.{main_held}
 use Rattle.mentat_cmd.proofs.check.is_typed.Goals as goal
 
 pub returns : goal.returns
