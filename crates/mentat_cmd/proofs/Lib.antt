@@ -18,7 +18,10 @@ pub mod Steps
 pub mod Turns
 pub mod TypedBodies
 pub mod TypedCalls
+pub mod TypedMembers
 pub mod TypedNodes
+pub mod TypedOutline
+pub mod TypedPrograms
 pub mod TypedScopes
 pub mod TypedStatements
 pub mod Weights

@@ -63,7 +63,7 @@ or_true : (a : Bool) → (a || true) ≡ true
 or_true true = refl
 or_true false = refl
 
-and_true_right : (a : Bool) → (a && true) ≡ a
+pub and_true_right : (a : Bool) → (a && true) ≡ a
 and_true_right true = refl
 and_true_right false = refl
 

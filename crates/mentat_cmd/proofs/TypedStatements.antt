@@ -154,7 +154,7 @@ object_next ds block scope agrees at class name (Some items) is new e =
       block = block ++ d ∷ [];
       after = refl;
       agrees = subst (Agrees (main_here ds (block ++ d ∷ []))) was.1 (agrees_behind ds block scope d (AnObject items) (shape_items (meant_by class.text ds) items is) agrees was.0);
-      words = ap (λ (n : ℕ). n + 0) (words_items (meant_by class.text ds) items is);
+      words = ap (λ (n : ℕ). 0 + n) (words_items (meant_by class.text ds) items is);
     }
 
 object_goes : (ds : List Declaration) → AllItems ds → (block : List Declared) (scope : Scope) → Agrees (main_here ds block) scope → (at : At) (class : Name) (name : Name)
