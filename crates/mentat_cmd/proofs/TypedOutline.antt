@@ -57,8 +57,12 @@ shuffled true false false ns ps = refl
 shuffled false q true ns ps = refl
 shuffled false q false ns ps = refl
 
+pub grouped : (a b c : Bool) → (a && (b && c)) ≡ ((a && b) && c)
+grouped true b c = refl
+grouped false b c = refl
+
 module _ {X : Type 0} (name : X → List ℕ) (part : X → Bool) (most : ℕ) where
-  kept : ℕ → List (List ℕ) → List X → Bool
+  abbrev kept : ℕ → List (List ℕ) → List X → Bool
   kept before earlier [] = true
   kept before earlier (x ∷ xs) = not (before == most) && (is_new earlier (name x) && (part x && kept (before + 1) (earlier ++ name x ∷ []) xs))
 
@@ -142,6 +146,7 @@ items_held : (here : Here) (is : List Item) → AreFirstItems is → held (item_
 items_held here is h =
     items_kept here (record { names = []; members = 0; selects = 0 }) is h ∙ kept_is name_of_item member_fits most_members is 0 [] (omega arith)
     ∙ ap (λ n. nat_le n most_members && (are_new [] (map name_of_item is) && list_all member_fits is)) (from_none (length is))
+    ∙ grouped (nat_le (length is) most_members) (are_new [] (map name_of_item is)) (list_all member_fits is)
 
 -- ---- declarations
 
@@ -228,4 +233,5 @@ outline_held p h =
     let ds = p.declarations in
     ap₂ (λ a b. a && b) (by_one 0 (rule 3 main_is_there) (list_any is_named_main ds) ∙ main_there ds h)
         (declarations_kept (at_top ds) 0 [] ds h ∙ kept_is name_of_declaration declaration_fits most_declarations ds 0 [] (omega arith)
-        ∙ ap (λ n. nat_le n most_declarations && (are_new [] (map name_of_declaration ds) && list_all declaration_fits ds)) (from_none (length ds)))
+        ∙ ap (λ n. nat_le n most_declarations && (are_new [] (map name_of_declaration ds) && list_all declaration_fits ds)) (from_none (length ds))
+        ∙ grouped (nat_le (length ds) most_declarations) (are_new [] (map name_of_declaration ds)) (list_all declaration_fits ds))

@@ -17,7 +17,7 @@ use Rattle.mpl_mean.specs.Layout.{formals_of}
 use Rattle.mpl_mean.specs.ProgramNodes.{Inside, OfRoutine, heres, inner_nodes, inners, inside_class, inside_declaration, inside_item, insides, nodes, nodes_inside, outline_nodes, surrounding}
 use Rattle.mpl_mean.specs.Rules.{Failure, first_rules, is_empty, is_typed, rule}
 use Rattle.mpl_mean.specs.Scopes.{Body, Surrounding, InFunction, InMain, at_top, in_body, in_class, is_main}
-use Rattle.mpl_mean.specs.SizeRules.{most_formals, most_members, most_words_of_variables, variables_fit}
+use Rattle.mpl_mean.specs.SizeRules.{most_declarations, most_formals, most_members, most_words_of_variables, variables_fit}
 use Rattle.mpl_mean.specs.StatementNodes.{locals_among}
 use Rattle.mpl_mean.specs.Types.{words_of_variables}
 use Rattle.mpl_mean.proofs.FirstExpressions.{both_true}
@@ -69,10 +69,9 @@ members_inside ds class items (i ∷ is) h few =
 class_inside : (ds : List Declaration) (d : Declaration) → is_class d ≡ true → declaration_fits d ≡ true → list_all inside_held (inside_declaration (at_top ds) d) ≡ bodies_fit ds d
 class_inside ds (declaration.Struct at line name fields) h few = absurd cc
 class_inside ds (declaration.Class at line (Regular k) name items) h few =
-    let a = both_true (not (is_main name.text)) (nat_le (length items) most_members && (are_distinct (map name_of_item items) && list_all member_fits items)) few in
-    let b = both_true (nat_le (length items) most_members) (are_distinct (map name_of_item items) && list_all member_fits items) a.1 in
-    let c = both_true (are_distinct (map name_of_item items)) (list_all member_fits items) b.1 in
-    members_inside ds (surrounding (Regular k) name items) h items h c.1
+    let counted = nat_le (length items) most_members && are_distinct (map name_of_item items) in
+    let a = both_true (not (is_main name.text)) (counted && list_all member_fits items) few in
+    members_inside ds (surrounding (Regular k) name items) h items h (both_true counted (list_all member_fits items) a.1).1
 class_inside ds (declaration.Class at line (Persistent k) name items) h few = absurd cc
 class_inside ds (declaration.Function at result name fs body) h few = absurd cc
 
@@ -120,4 +119,4 @@ typed_fits p h =
     ∙ held_append (outline_nodes p) (nodes_inside (heres p) (inners p))
     ∙ both_fit (held (outline_nodes p)) (outline_fits ds) (held (nodes_inside (heres p) (inners p))) (list_all (bodies_fit ds) ds) (outline_held p h) (λ fits.
         insides_held (insides p)
-        ∙ all_inside ds (items_first ds h) ds h (both_true (are_distinct (map name_of_declaration ds)) (list_all declaration_fits ds) (both_true _ (are_distinct (map name_of_declaration ds) && list_all declaration_fits ds) fits).1).1)
+        ∙ all_inside ds (items_first ds h) ds h (both_true (nat_le (length ds) most_declarations && are_distinct (map name_of_declaration ds)) (list_all declaration_fits ds) fits).1)

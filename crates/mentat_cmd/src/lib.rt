@@ -13,6 +13,8 @@ mod outline;
 mod output;
 mod parser;
 mod reader;
+#[cfg(test)]
+mod rule_tests;
 mod run;
 mod scope;
 mod statement;

@@ -6,9 +6,9 @@ use std::test::Fail;
 
 /// A command's ending, and what it wrote to its output.
 #[derive(Drop)]
-struct Answer {
-    ending: Ending,
-    out: MemSink,
+pub struct Answer {
+    pub ending: Ending,
+    pub out: MemSink,
 }
 
 /// A list of the numbers of calls that are to fail.
@@ -17,7 +17,7 @@ fn calls(alloc: Global, numbers: &[i64]) -> Result<Words, NoMemory> {
 }
 
 /// Gives these words to a command whose shelf has one file, `a.mpl`.
-fn command(alloc: Global, words: &[&str], source: &[u8], out: MemSink) -> Result<Answer, NoMemory> {
+pub fn command(alloc: Global, words: &[&str], source: &[u8], out: MemSink) -> Result<Answer, NoMemory> {
     let mut out = out;
     let mut shelf = MemShelf::new(alloc, Words::new(alloc));
     shelf.add_file(Text::of(alloc, "a.mpl")?, Bytes::from_slice(alloc, source)?)?;
@@ -45,7 +45,7 @@ fn run(alloc: Global, source: &str) -> Result<Answer, NoMemory> {
 }
 
 /// A class of three members, and `main` with these statements.
-const CLASS: &str =
+pub const CLASS: &str =
     "regular mentat class calc {\n  int sq(int x) { rtf(x * x); }\n  int add(int x, int y) { rtf(x + y); }\n  int one() { rtf(1); }\n};\n";
 
 #[test]
