@@ -7,6 +7,7 @@ ghost use Rattle.mpl_mean.specs.BodyMeaning.{yield_of};
 ghost use Rattle.mpl_mean.specs.FirstForm.{is_first_form};
 ghost use Rattle.mpl_mean.specs.Lexemes.{tokens_of};
 ghost use Rattle.mpl_mean.specs.MoreReplies.{AreAmong, Grows};
+ghost use Rattle.mpl_mean.specs.ProgramText.{spells};
 ghost use Rattle.mpl_mean.specs.Rules.{Failure, fails, failures, first_failures, is_typed, least_failure, IsNotBehind};
 ghost use Rattle.mpl_value.specs.declared.body.BodyEnd.TheVariants as end;
 ghost use Rattle.mpl_value.specs.declared.body.BodyStart.{BodyStart};
@@ -15,6 +16,11 @@ ghost use Rattle.mpl_value.specs.declared.known.Known.{Known};
 /// A source has no more tokens than bytes.
 pub fn tokens_are_few()
     ensures { (source : List ℕ) (tokens : List Token) → tokens_of source ≡ Ok tokens → length tokens ≤ length source }
+{}
+
+/// No two programs of the first form have the same tokens.
+pub fn tokens_have_one_tree()
+    ensures { (p q : Program) (tokens : List Token) → is_first_form p ≡ true → is_first_form q ≡ true → spells p tokens ≡ true → spells q tokens ≡ true → p ≡ q }
 {}
 
 /// A refusal names a rule that fails at its byte, and of all that fail none comes before it: not at a

@@ -7,7 +7,7 @@ mod worked;
 
 pub use laws::{
     more_replies_only_add, more_turns_change_nothing, refusals_are_least, seven_rules_are_enough,
-    tokens_are_few,
+    tokens_are_few, tokens_have_one_tree,
 };
 pub use worked::{
     calls_have_their_yields, loops_have_their_turns, parts_have_their_order, replies_are_awaited,
