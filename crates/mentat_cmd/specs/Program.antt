@@ -6,12 +6,14 @@ use Rattle.mpl_mean.specs.FirstForm.{is_first_form}
 use Rattle.mpl_mean.specs.DirectRun.{direct_run}
 use Rattle.mpl_mean.specs.Lexemes.{tokens_of}
 use Rattle.mpl_mean.specs.ProgramText.{spells}
+use Rattle.mpl_mean.specs.Rules.{is_typed}
 use Rattle.mpl_mean.specs.Weight.{is_light}
 use Rattle.mpl_value.specs.declared.body.Yield.{Yield}
 use Rattle.mentat_cmd.specs.declared.run.Refusal.{Refusal}
 use Rattle.mentat_cmd.specs.declared.run.Refusal.TheVariants as refusal
 
--- a source within its limit spells the program, no token of which weighs more than 64, and which is of the first form
+-- a source within its limit spells the program, no token of which weighs more than 64, which is of the first form, and
+-- in which no type rule fails
 pub record Spells (source : List ℕ) (p : Program) : Type 0 where
   pub tokens : List Token
   pub short : length source ≤ 1048576
@@ -19,8 +21,9 @@ pub record Spells (source : List ℕ) (p : Program) : Type 0 where
   pub spelled : spells p tokens ≡ true
   pub light : is_light p ≡ true
   pub built : is_first_form p ≡ true
+  pub typed : is_typed p ≡ true
 
--- no program of the first form has the source
+-- no well typed program of the first form has the source
 abbrev pub SpellsNothing : List ℕ → Type 0
 SpellsNothing source = (p : Program) → Spells source p → ⊥
 

@@ -2,9 +2,10 @@ ghost use Rattle.std.specs.Prelude.{◌≡◌, ◌≤◌, [], length};
 ghost use Rattle.mentat_cmd.specs.Program.{Ran};
 ghost use Rattle.mpl_mean.specs.DirectRun.{main_start};
 
+use crate::check::is_typed;
 use crate::parser::{ParseFault, parse};
 use mpl_lexer::{LexFault, lex};
-use mpl_mean::tokens_are_few;
+use mpl_mean::{tokens_are_few, tokens_have_one_tree};
 use mpl_value::{BodyStart, NoMemory, Replies, Words, Yield};
 use mpl_walk::walk;
 use std::alloc::Global;
@@ -15,9 +16,19 @@ pub const BUDGET: u64 = 1_000_000;
 /// Why a source didn't run.
 #[derive(Clone, Copy, Debug, PartialEq, Eq)]
 pub enum Refusal {
-    /// No program of the first form has this source.
+    /// No well typed program of the first form has this source.
     Unbuilt,
     NoMemory,
+}
+
+impl From<NoMemory> for Refusal {
+    ghost use Rattle.mentat_cmd.specs.declared.run.Refusal.TheVariants.{NoMemory};
+
+    ghost from_gives = { λ _ e. e ≡ NoMemory };
+
+    fn from(_error: NoMemory) -> Refusal {
+        Refusal::NoMemory
+    }
 }
 
 /// What the program of a source does.
@@ -36,6 +47,10 @@ pub fn run(alloc: Global, source: &[u8]) -> Result<Yield, Refusal>
         Err(ParseFault::NoMemory) => return Err(Refusal::NoMemory),
         Err(ParseFault::Unfit) => return Err(Refusal::Unbuilt),
     };
+    tokens_have_one_tree();
+    if !is_typed(alloc, &program)? {
+        return Err(Refusal::Unbuilt);
+    }
     let start = start_of_main(alloc);
     let replies = Replies::new(alloc);
     match walk(alloc, &program, &start, &replies, BUDGET) {

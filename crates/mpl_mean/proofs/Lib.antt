@@ -22,7 +22,7 @@ mod UnlessSpent
 mod WorkedRun
 mod WorkedTokens
 mod Shown
-mod Levels
+pub mod Levels
 mod Expressions
 mod Statements
 mod Programs
@@ -35,12 +35,12 @@ mod WorkedStatements
 mod WorkedPrograms
 mod WorkedLimits
 mod LeastFailure
-mod FirstExpressions
-mod FirstActions
-mod FirstTypes
-mod FirstNodes
-mod FirstBodies
-mod FirstPrograms
+pub mod FirstExpressions
+pub mod FirstActions
+pub mod FirstTypes
+pub mod FirstNodes
+pub mod FirstBodies
+pub mod FirstPrograms
 pub mod BothRead
 pub mod BothReadTokens
 pub mod FirstTrees
