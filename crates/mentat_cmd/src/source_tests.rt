@@ -238,13 +238,12 @@ fn sources_run_or_are_refused(rt: HostRuntime) -> Result<(), Fail> {
         let source = repeated(rt.alloc(), texts, most.saturating_add(1))?;
         assert!(rt; is_refused(rt.alloc(), source.as_slice())?, "{before}");
     }
-    let objects = (
-        "regular mentat class c { }; int main() {",
-        "c #;",
-        "}",
-    );
+    let objects = ("regular mentat class c { }; int main() {", "c #;", "}");
     let source = repeated(rt.alloc(), objects, 1025)?;
-    assert!(rt; runs(rt.alloc(), source.as_slice())?, "objects have no words");
+    assert!(rt;
+        runs(rt.alloc(), source.as_slice())?,
+        "objects have no words"
+    );
     Ok(())
 }
 
