@@ -41,3 +41,4 @@ mod FirstTypes
 mod FirstNodes
 mod FirstBodies
 mod FirstPrograms
+mod SizedSteps

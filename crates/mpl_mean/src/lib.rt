@@ -6,7 +6,7 @@ mod laws;
 mod worked;
 
 pub use laws::{
-    more_replies_only_add, more_turns_change_nothing, refusals_are_least, seven_rules_are_enough,
+    more_replies_only_add, more_turns_change_nothing, refusals_are_least, seven_rules_are_enough, sizes_are_kept,
     tokens_are_few,
 };
 pub use worked::{
