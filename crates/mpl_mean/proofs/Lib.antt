@@ -42,3 +42,5 @@ mod FirstNodes
 mod FirstBodies
 mod FirstPrograms
 mod SizedSteps
+mod SizedForms
+mod SizedExpressionForms

@@ -38,10 +38,10 @@ variable_words ds v = words_of ds v.type v.dimension
 abbrev pub VariableFits : List Declaration → Variable → Type 0
 VariableFits ds v = ArgFits (variable_words ds v) v.holds
 
-pub record RestFits (G : Frame) (state : List ℤ) (calls : List CallMade) (result : BodyResult) : Type 0 where
-  pub state : length state ≡ G.state_words
-  pub calls : Every (CallFits G.declarations) calls
-  pub result : ResultFits G.result_words result
+pub record RestFits (G : Frame) (words : List ℤ) (made : List CallMade) (given : BodyResult) : Type 0 where
+  pub state : length words ≡ G.state_words
+  pub calls : Every (CallFits G.declarations) made
+  pub result : ResultFits G.result_words given
 
 abbrev pub Rest : Frame → Store → Type 0
 Rest G s = RestFits G s.state s.calls s.result
@@ -91,7 +91,7 @@ then_holds G Q R h r (Ends e s) q w = q
 pub then_triple : (G : Frame) {A B : Type 0} (P : Store → Type 0) (Q : A → Store → Type 0) (R : B → Store → Type 0) (f : Doing A) (h : A → Doing B)
     → Triple G A P Q f → ((a : A) → Triple G B (Q a) R (h a)) → Triple G B P R (f >>= h)
 then_triple G P Q R f h t r =
-    let grown = λ s. then_grows h (λ a. (r a).grows) (f s) in
+    let grown : (s : Store) → IsFront (store_after (f s)).calls (store_after (and_then (f s) h)).calls = λ s. then_grows h (λ a. (r a).grows) (f s) in
     record {
       grows = λ s. front_trans s.calls (store_after (f s)).calls _ (t.grows s) (grown s);
       holds = λ s p w. then_holds G Q R h r (f s) (t.holds s p (front_trans (store_after (f s)).calls _ G.calls (grown s) w)) w;
