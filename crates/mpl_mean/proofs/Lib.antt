@@ -44,3 +44,5 @@ mod FirstPrograms
 mod SizedSteps
 mod SizedForms
 mod SizedExpressionForms
+mod SizedStatementForms
+mod SizedStores

@@ -1,3 +1,5 @@
+use Rattle.mpl_mean.proofs.SizedStores.{holding_fits}
+use Rattle.mpl_mean.proofs.SizedStatementForms.{statement_acts}
 use Rattle.mpl_mean.proofs.SizedExpressionForms.{expression_means}
 use Rattle.mpl_mean.proofs.SizedSteps.{force_keeps}
 use Rattle.mpl_mean.proofs.laws.sizes_are_kept.Goals as goal
