@@ -46,3 +46,5 @@ mod SizedForms
 mod SizedExpressionForms
 mod SizedStatementForms
 mod SizedStores
+mod SizedScopes
+mod SizedAnswers

@@ -1,3 +1,5 @@
+use Rattle.mpl_mean.proofs.SizedScopes.{scope_keeps}
+use Rattle.mpl_mean.proofs.SizedAnswers.{answer_keeps}
 use Rattle.mpl_mean.proofs.SizedStores.{holding_fits}
 use Rattle.mpl_mean.proofs.SizedStatementForms.{statement_acts}
 use Rattle.mpl_mean.proofs.SizedExpressionForms.{expression_means}
