@@ -48,3 +48,5 @@ mod SizedStatementForms
 mod SizedStores
 mod SizedScopes
 mod SizedAnswers
+mod SizedRules
+mod SizedClasses
