@@ -50,3 +50,5 @@ mod SizedScopes
 mod SizedAnswers
 mod SizedRules
 mod SizedClasses
+mod SizedTypes
+mod SizedParts

@@ -1,3 +1,5 @@
+use Rattle.mpl_mean.proofs.SizedParts.{struct_words}
+use Rattle.mpl_mean.proofs.SizedTypes.{field_words}
 use Rattle.mpl_mean.proofs.SizedClasses.{class_found}
 use Rattle.mpl_mean.proofs.SizedRules.{typed_right}
 use Rattle.mpl_mean.proofs.SizedScopes.{scope_keeps}
