@@ -52,3 +52,5 @@ mod SizedRules
 mod SizedClasses
 mod SizedTypes
 mod SizedParts
+mod SizedSettings
+mod SizedPlaces

@@ -97,6 +97,11 @@ then_triple G P Q R f h t r =
       holds = λ s p w. then_holds G Q R h r (f s) (t.holds s p (front_trans (store_after (f s)).calls _ G.calls (grown s) w)) w;
     }
 
+pub so_after : (G : Frame) {A : Type 0} {Q R : A → Store → Type 0} → ((a : A) (s : Store) → Q a s → R a s) → (o : Outcome A) → After G Q o → After G R o
+so_after G r (Goes a s) q = r a s q
+so_after G r (Returns words s) q = q
+so_after G r (Ends e s) q = q
+
 after_more : (G : Frame) {A : Type 0} (Q R : A → Store → Type 0) → ((a : A) (s : Store) → Q a s → R a s) → (o : Outcome A) → After G Q o → After G R o
 after_more G Q R r (Goes a s) q = r a s q
 after_more G Q R r (Returns words s) q = q

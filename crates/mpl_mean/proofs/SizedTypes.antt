@@ -142,7 +142,7 @@ some_type : {a b : ValueType} → ◌≡◌ {A = Option ValueType} (Some a) (Som
 some_type e = cc
 
 -- a name stands for neither `int` nor `bool`
-not_int : (name : List ℕ) (ds : List Declaration) → meant_by name ds ≡ AnInt → ⊥
+pub not_int : (name : List ℕ) (ds : List Declaration) → meant_by name ds ≡ AnInt → ⊥
 not_int name [] e = cc
 not_int name (declaration.Struct at line struct fields ∷ ds) e = chosen (bytes_eq struct.text name) e (not_int name ds) where
   chosen : (b : Bool) → (if b then AStruct name fields else meant_by name ds) ≡ AnInt → (meant_by name ds ≡ AnInt → ⊥) → ⊥
@@ -154,7 +154,7 @@ not_int name (declaration.Class at line kind class items ∷ ds) e = chosen (byt
   chosen false e k = k e
 not_int name (declaration.Function at result function formals body ∷ ds) e = not_int name ds e
 
-not_bool : (name : List ℕ) (ds : List Declaration) → meant_by name ds ≡ ABool → ⊥
+pub not_bool : (name : List ℕ) (ds : List Declaration) → meant_by name ds ≡ ABool → ⊥
 not_bool name [] e = cc
 not_bool name (declaration.Struct at line struct fields ∷ ds) e = chosen (bytes_eq struct.text name) e (not_bool name ds) where
   chosen : (b : Bool) → (if b then AStruct name fields else meant_by name ds) ≡ ABool → (meant_by name ds ≡ ABool → ⊥) → ⊥

@@ -1,3 +1,5 @@
+use Rattle.mpl_mean.proofs.SizedPlaces.{spot_keeps}
+use Rattle.mpl_mean.proofs.SizedSettings.{look_keeps}
 use Rattle.mpl_mean.proofs.SizedParts.{struct_words}
 use Rattle.mpl_mean.proofs.SizedTypes.{field_words}
 use Rattle.mpl_mean.proofs.SizedClasses.{class_found}
