@@ -193,3 +193,48 @@ spot_keeps G S well blocks vs {P} (target.Field at name field) h m n r =
       let f = field_spot G S blocks vs well name.text field.text (variable_of (here G S blocks) name.text) (spot_of_name (inside G S) v name.text) nodes.0.known nodes.1.0.of_struct nodes.1.1.0.known
           (name_spot G S blocks vs name.text v (m p.0) p.1) in
       record { declared = f.0; shape = f.1; fits = f.2 }
+
+-- ---- reading and storing
+
+same_spot : {a b : Spot} → ◌≡◌ {A = Option Spot} (Some a) (Some b) → a ≡ b
+same_spot e = cc
+
+pub base_keeps : (G : Frame) (vs : List Variable) {P : Type 0} (v : Option Variable) (offset words : ℕ) (is_whole : Bool) → (P → BaseFits G.declarations G.state_words vs v offset words is_whole)
+    → Keeps G vs P (List ℤ) (λ ws. offset + words ≤ length ws) (base_of v)
+base_keeps G vs None offset words is_whole h = so_keeps G vs (λ p. p) (λ ws p e. let i = h p in omega arith) (state_keeps G vs)
+base_keeps G vs (Some v) offset words is_whole h = so_keeps G vs (λ p. p) (λ ws p e. let i = (h p).0 in omega arith) (force_keeps G vs (variable_words G.declarations v) v.holds (λ p. (h p).1))
+
+pub words_keeps : (G : Frame) (S : Setting) (blocks : List (List Declared)) (vs : List Variable) {P : Type 0} (t : Target) (spot : Option Spot) → (P → SpotRight G S blocks vs t spot)
+    → Keeps G vs P Value (λ v. (s : Spot) → spot ≡ Some s → length v.words ≡ s.words) (words_of_spot spot)
+words_keeps G S blocks vs t None r = give_keeps G vs _ (λ p s e. absurd cc)
+words_keeps G S blocks vs t (Some spot) r =
+    then_keeps G vs (base_keeps G vs spot.variable spot.offset spot.words spot.is_whole (λ p. (r p).fits.base))
+    (λ words. give_keeps G vs _ (λ p s e. words_at_long spot.offset spot.words words p.1 ∙ ap (λ (o : Spot). o.words) (same_spot e)))
+
+pub put_keeps : (G : Frame) (vs : List Variable) {P : Type 0} (v : Option Variable) (offset : ℕ) (is_whole : Bool) (new : List ℤ)
+    → (P → (words : ℕ) × (length new ≤ words) × BaseFits G.declarations G.state_words vs v offset words is_whole) → Keeps G vs P (Unit {0}) (λ _. Unit {0}) (put v offset new)
+put_keeps G vs None offset is_whole new h = restates_keeps G vs offset new (λ p. let i = h p in let j = i.1 in let k = i.2 in omega arith)
+put_keeps G vs (Some v) offset is_whole new h =
+    so_keeps G vs (λ p. p) (λ a p e. tt)
+    (then_keeps G vs (force_keeps G vs (variable_words G.declarations v) v.holds (λ p. (h p).2.1))
+    (λ old. hold_keeps G vs v.name (Know (with_words offset new old))
+    (λ p.
+    let i = h p.0 in
+    let e = p.1 in
+    let j = i.1 in
+    let k = i.2.0 in
+    (bare v, i.2.2, with_words_long offset new old (omega arith) ∙ e))))
+
+tested_keeps : (G : Frame) (vs : List Variable) {P : Type 0} (line dimension : ℕ) (o : Option ℕ) → ((n : ℕ) → o ≡ Some n → n + 1 ≤ dimension) → Keeps G vs P ℕ (λ n. n + 1 ≤ dimension) (tested_index line o)
+tested_keeps G vs line dimension None h = stop_keeps G vs _
+tested_keeps G vs line dimension (Some n) h = give_keeps G vs n (λ p. h n refl)
+
+index_inside : (dimension : ℕ) (z : ℤ) (n : ℕ) → index_below dimension z ≡ Some n → n + 1 ≤ dimension
+index_inside dimension (pos k) n e = chosen (nat_lt k dimension) refl e where
+  chosen : (b : Bool) → nat_lt k dimension ≡ b → (if b then Some k else None) ≡ Some n → n + 1 ≤ dimension
+  chosen true i e = let j : k ≡ n = cc in let l : k + 1 ≤ dimension = grind (arith, nat_tests) in omega arith
+  chosen false i e = absurd cc
+index_inside dimension (negsuc k) n e = absurd cc
+
+pub index_keeps : (G : Frame) (vs : List Variable) {P : Type 0} (line dimension : ℕ) (z : ℤ) → Keeps G vs P ℕ (λ n. n + 1 ≤ dimension) (index_of line dimension z)
+index_keeps G vs line dimension z = tested_keeps G vs line dimension (index_below dimension z) (index_inside dimension z)
