@@ -54,3 +54,4 @@ mod SizedTypes
 mod SizedParts
 mod SizedSettings
 mod SizedPlaces
+mod SizedArguments
