@@ -55,3 +55,5 @@ mod SizedParts
 mod SizedSettings
 mod SizedPlaces
 mod SizedArguments
+mod SizedTyping
+mod SizedExpressions

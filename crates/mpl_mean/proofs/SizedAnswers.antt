@@ -28,6 +28,14 @@ all_keep G vs V (t ∷ ts) [] r = absurd r
 all_keep G vs V (t ∷ ts) (f ∷ fs) r =
     then_keeps G vs r.0 (λ a. then_keeps G vs (from_premise G vs (λ p. p.0) (all_keep G vs V ts fs r.1)) (λ xs. give_keeps G vs (a ∷ xs) (λ p. (p.0.1, p.1))))
 
+-- the same from another premise
+pub zip_from : (G : Frame) (vs : List Variable) {P P' : Type 0} {A T : Type 0} (V : T → A → Type 0) → (P → P') → (ts : List T) (fs : List (Doing A))
+    → AllZip (λ t f. Keeps G vs P' A (V t) f) ts fs → AllZip (λ t f. Keeps G vs P A (V t) f) ts fs
+zip_from G vs V h [] [] r = tt
+zip_from G vs V h [] (f ∷ fs) r = absurd r
+zip_from G vs V h (t ∷ ts) [] r = absurd r
+zip_from G vs V h (t ∷ ts) (f ∷ fs) r = (from_premise G vs h r.0, zip_from G vs V h ts fs r.1)
+
 -- ---- calls
 
 -- the member of this number, in the class that has it

@@ -121,7 +121,7 @@ args_fit ds well ts formals args h e w = zip_args ds ts formals args (formals_ag
 
 -- ---- plain functions
 
-some_function : {a b : Function} → ◌≡◌ {A = Option Function} (Some a) (Some b) → a ≡ b
+pub some_function : {a b : Function} → ◌≡◌ {A = Option Function} (Some a) (Some b) → a ≡ b
 some_function e = cc
 
 pub function_of : (whole : List Declaration) (name : List ℕ) (f : Function) (ds : List Declaration) → is_main name ≡ false → Every (WellDeclaration whole) ds → function_named name ds ≡ Some f → PlainFits whole f

@@ -1,3 +1,4 @@
+use Rattle.mpl_mean.proofs.SizedExpressions.{value_keeps}
 use Rattle.mpl_mean.proofs.SizedArguments.{words_fit}
 use Rattle.mpl_mean.proofs.SizedPlaces.{spot_keeps}
 use Rattle.mpl_mean.proofs.SizedSettings.{look_keeps}
