@@ -57,3 +57,5 @@ mod SizedPlaces
 mod SizedArguments
 mod SizedTyping
 mod SizedExpressions
+mod SizedCallees
+mod SizedCalls

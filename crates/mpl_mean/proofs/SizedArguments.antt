@@ -44,7 +44,7 @@ formal_value (AClass n true items) h = absurd cc
 formal_value (AClass n false items) h = refl
 formal_value Nothing h = absurd cc
 
-two_true : (a b : Bool) → (a && b) ≡ true → (a ≡ true) × (b ≡ true)
+pub two_true : (a b : Bool) → (a && b) ≡ true → (a ≡ true) × (b ≡ true)
 two_true true b e = (refl, e)
 two_true false b e = absurd cc
 

@@ -16,12 +16,12 @@ use Rattle.mpl_mean.specs.Layout.{Function, Member, Part, dimension_of, member_n
 use Rattle.mpl_mean.specs.Scopes.{Body, Here, InFunction, InMember, Surrounding, is_persistent, state_members, variable_of}
 use Rattle.mpl_mean.specs.Sizes.{ArgFits, CallReplyFits, Every, words_of_result}
 use Rattle.mpl_mean.specs.Store.{Doing, Variable, variable_named}
-use Rattle.mpl_mean.specs.Types.{Declared, OfClass, OneValue, first_named}
+use Rattle.mpl_mean.specs.Types.{Declared, OfClass, OneValue, declared_formals, first_named}
 use Rattle.mpl_mean.specs.Typing.{member_called}
 use Rattle.mpl_mean.proofs.SizedAnswers.{IsMember, WordsFit}
 use Rattle.mpl_mean.proofs.SizedClasses.{bytes_same}
 use Rattle.mpl_mean.proofs.SizedParts.{PartFits}
-use Rattle.mpl_mean.proofs.SizedRules.{HasType, WellDeclared, WellMember, WellRoutine, within}
+use Rattle.mpl_mean.proofs.SizedRules.{HasType, WellDeclared, WellMember, WellResult, WellRoutine, within}
 use Rattle.mpl_mean.proofs.SizedSteps.{Frame, Keeps, VariableFits, Fits, bare, so_after}
 use Rattle.mpl_mean.proofs.SizedTypes.{WellProgram}
 
@@ -60,15 +60,17 @@ pub record BelowFits (ds : List Declaration) (replies : FinMap nat_cmp Known) (b
       → Keeps (frame ds replies state result calls May) vs (RegularFits ds m × WordsFit ds m.formals arguments) Arg (ArgFits (words_of_result ds m.result)) (b.regular m arguments)
 
 -- the member that is called, and what the type rules see of it
-pub record Callee (m n : Member) : Type 0 where
+pub record Callee (ds : List Declaration) (m n : Member) : Type 0 where
   pub formals : m.formals ≡ n.formals
   pub result : m.result ≡ n.result
+  pub well : Every (WellDeclared ds) (declared_formals m.formals)
+  pub typed : WellResult ds m.result
 
-abbrev pub Callees : (Member → Type 0) → Option Member → Option Member → Type 0
-Callees R None None = Unit {0}
-Callees R None (Some m) = ⊥
-Callees R (Some n) None = ⊥
-Callees R (Some n) (Some m) = Callee m n × R m
+abbrev pub Callees : List Declaration → (Member → Type 0) → Option Member → Option Member → Type 0
+Callees ds R None None = Unit {0}
+Callees ds R None (Some m) = ⊥
+Callees ds R (Some n) None = ⊥
+Callees ds R (Some n) (Some m) = Callee ds m n × R m
 
 -- what a body that returns hands over
 abbrev pub ReturnFits : List Declaration → Body → List ℤ → Type 0
@@ -82,7 +84,7 @@ MayCall S = call_may_stand S.body (is_persistent S.class) (Some (OneValue (OfCla
 pub record Sound (G : Frame) (S : Setting) : Type 1 where
   pub well : WellProgram G.declarations
   pub state : (name : List ℕ) → PartFits G.declarations G.state_words (first_named name (state_members S.class)) (part_named name S.context.state)
-  pub own : (blocks : List (List Declared)) (name : List ℕ) → is_persistent S.class ≡ true → Callees (IsMember G.declarations) (member_called (here G S blocks) None name) (member_named name S.context.members)
+  pub own : (blocks : List (List Declared)) (name : List ℕ) → is_persistent S.class ≡ true → Callees G.declarations (IsMember G.declarations) (member_called (here G S blocks) None name) (member_named name S.context.members)
   pub replies : MayCall S → Every (CallReplyFits G.declarations G.replies) G.calls
   pub result : (result : ResultType) → S.body ≡ InMember result → G.result_words ≡ Some (words_of_result G.declarations result)
   pub returns : (words : List ℤ) → ReturnFits G.declarations S.body words → G.MayReturn words

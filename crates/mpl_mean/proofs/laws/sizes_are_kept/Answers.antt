@@ -1,3 +1,5 @@
+use Rattle.mpl_mean.proofs.SizedCalls.{pass_keeps}
+use Rattle.mpl_mean.proofs.SizedCallees.{callees_of}
 use Rattle.mpl_mean.proofs.SizedExpressions.{value_keeps}
 use Rattle.mpl_mean.proofs.SizedArguments.{words_fit}
 use Rattle.mpl_mean.proofs.SizedPlaces.{spot_keeps}
