@@ -59,3 +59,4 @@ mod SizedTyping
 mod SizedExpressions
 mod SizedCallees
 mod SizedCalls
+mod SizedFlows

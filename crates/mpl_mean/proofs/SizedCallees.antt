@@ -166,13 +166,13 @@ pub record MemberOf (ds : List Declaration) (regular : Bool) (m : Member) : Type
   pub is : IsMember ds m
   pub in_place : regular ≡ true → RegularFits ds m
 
+found_class : {a b : Class} → ◌≡◌ {A = Option Class} (Some a) (Some b) → a ≡ b
+found_class e = cc
+
 pub callees_of : {ds : List Declaration} → WellProgram ds → (name meant : List ℕ) (regular : Bool) (items : List Item) (e : meant_by name ds ≡ AClass meant regular items) (class : Class)
     → class_named name (classes_of ds) ≡ Some class → (member : List ℕ)
     → Callees ds (MemberOf ds regular) (member_of member items) (member_named member class.members)
 callees_of {ds} well name meant regular items e class i member = found (class_of well name meant regular items e) where
-  some_class : {a b : Class} → ◌≡◌ {A = Option Class} (Some a) (Some b) → a ≡ b
-  some_class e = cc
-
   join : (c : Class) (first : ℕ) (n m : Option Member) → member_named member c.members ≡ m → ((m : Member) → member_named member c.members ≡ Some m → IsMember ds m)
       → ((m : Member) → member_named member c.members ≡ Some m → WellMember ds (record { name = name; is_regular = regular; items = items }) m.result m.formals m.body)
       → Alike n m → Callees ds (MemberOf ds regular) n m
@@ -186,7 +186,13 @@ callees_of {ds} well name meant regular items e class i member = found (class_of
 
   found : ClassFound ds name regular items 0 0 ds → Callees ds (MemberOf ds regular) (member_of member items) (member_named member class.members)
   found f =
-      subst (λ (c : Class). Callees ds (MemberOf ds regular) (member_of member items) (member_named member c.members)) (some_class (sym f.found ∙ i))
+      subst (λ (c : Class). Callees ds (MemberOf ds regular) (member_of member items) (member_named member c.members)) (found_class (sym f.found ∙ i))
       (join f.class f.first (member_of member items) (member_named member (f.class).members) refl (λ m j. (f.class, (f.numbered member m j).1))
       (λ m j. member_well ds _ member f.first items m (f.right).0 (subst (λ ms. member_named member ms ≡ Some m) f.members j))
       (subst (λ ms. Alike (member_of member items) (member_named member ms)) (sym f.members) (members_alike member 0 f.first items)))
+
+pub regular_of : {ds : List Declaration} → WellProgram ds → (name meant : List ℕ) (regular : Bool) (items : List Item) (e : meant_by name ds ≡ AClass meant regular items) (class : Class)
+    → class_named name (classes_of ds) ≡ Some class → class.is_regular ≡ regular
+regular_of {ds} well name meant regular items e class i =
+    let f = class_of well name meant regular items e in
+    subst (λ (c : Class). c.is_regular ≡ regular) (found_class (sym f.found ∙ i)) f.is_regular

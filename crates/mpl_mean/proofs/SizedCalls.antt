@@ -75,20 +75,20 @@ abbrev pub CallHas : List Declaration → Option Member → Arg → Type 0
 CallHas ds None a = ⊥
 CallHas ds (Some n) a = ArgFits (words_of_result ds n.result) a × WellResult ds n.result
 
-passed_has : {ds : List Declaration} → WellProgram ds → (n : Option Member) (a : Arg) → member_has_value n ≡ true → CallHas ds n a → ArgHas ds (type_of_call ds n) a
+pub passed_has : {ds : List Declaration} → WellProgram ds → (n : Option Member) (a : Arg) → member_has_value n ≡ true → CallHas ds n a → ArgHas ds (type_of_call ds n) a
 passed_has well None a h c = absurd c
 passed_has well (Some n) a h c = result_has well n.result a h c.1 c.0
 
 -- ---- where calls may stand
 
-own_may : (body : Body) (class : Option Surrounding) → (is_in_member body && is_persistent class) ≡ true → call_may_stand body (is_persistent class) (Some (OneValue (OfClass []))) ≡ true
+pub own_may : (body : Body) (class : Option Surrounding) → (is_in_member body && is_persistent class) ≡ true → call_may_stand body (is_persistent class) (Some (OneValue (OfClass []))) ≡ true
 own_may NoBody class e = absurd cc
 own_may InGuard class e = absurd cc
 own_may InMain class e = absurd cc
 own_may (InFunction type) class e = absurd cc
 own_may (InMember result) class e = ap (λ b. call_may_stand (InMember result) b (Some (OneValue (OfClass [])))) e
 
-object_may : (body : Body) (persistent : Bool) (n : List ℕ) → call_may_stand body persistent (Some (OneValue (OfClass n))) ≡ true → call_may_stand body persistent (Some (OneValue (OfClass []))) ≡ true
+pub object_may : (body : Body) (persistent : Bool) (n : List ℕ) → call_may_stand body persistent (Some (OneValue (OfClass n))) ≡ true → call_may_stand body persistent (Some (OneValue (OfClass []))) ≡ true
 object_may NoBody persistent n e = absurd cc
 object_may InGuard persistent n e = absurd cc
 object_may InMain persistent n e = refl
@@ -96,17 +96,17 @@ object_may (InFunction type) persistent n e = absurd cc
 object_may (InMember result) true n e = refl
 object_may (InMember result) false n e = absurd cc
 
-if_known : (G : Frame) (vs : List Variable) {P : Type 0} {A : Type 0} {V : A → Type 0} (test : Bool) {f h : Doing A} → Keeps G vs (P × (test ≡ true)) A V f → Keeps G vs (P × (test ≡ false)) A V h
+pub if_known : (G : Frame) (vs : List Variable) {P : Type 0} {A : Type 0} {V : A → Type 0} (test : Bool) {f h : Doing A} → Keeps G vs (P × (test ≡ true)) A V f → Keeps G vs (P × (test ≡ false)) A V h
     → Keeps G vs P A V (if test then f else h)
 if_known G vs true t u = from_premise G vs (λ p. (p, refl)) t
 if_known G vs false t u = from_premise G vs (λ p. (p, refl)) u
 
-member_keeps : (G : Frame) (vs : List Variable) {P : Type 0} {V : Arg → Type 0} (o : Option Member) (h : Member → Doing Arg) → ((m : Member) → Keeps G vs (P × (o ≡ Some m)) Arg V (h m))
+pub member_keeps : (G : Frame) (vs : List Variable) {P : Type 0} {V : Arg → Type 0} (o : Option Member) (h : Member → Doing Arg) → ((m : Member) → Keeps G vs (P × (o ≡ Some m)) Arg V (h m))
     → Keeps G vs P Arg V (call_of_member o h)
 member_keeps G vs None h r = stop_keeps G vs _
 member_keeps G vs (Some m) h r = from_premise G vs (λ p. (p, refl)) (r m)
 
-bound_keeps : (G : Frame) (vs : List Variable) {P : Type 0} (line : ℕ) (object : ℤ) → Keeps G vs P ℤ (λ _. Unit {0}) (bound line object)
+pub bound_keeps : (G : Frame) (vs : List Variable) {P : Type 0} (line : ℕ) (object : ℤ) → Keeps G vs P ℤ (λ _. Unit {0}) (bound line object)
 bound_keeps G vs line object = if_keeps G vs (int_eq object (pos 0)) (stop_keeps G vs _) (give_keeps G vs object (λ p. tt))
 
 module _ (G : Frame) (S : Setting) (s : Sound G S) (blocks : List (List Declared)) (vs : List Variable) where
@@ -163,7 +163,7 @@ module _ (G : Frame) (S : Setting) (s : Sound G S) (blocks : List (List Declared
   abbrev EachKeeps : Type 0 → List (Option ValueType) → List (Doing Arg) → Type 0
   EachKeeps P ts fs = AllZip (λ t f. Keeps G vs P Arg (ArgHas G.declarations t) f) ts fs
 
-  persistent_keeps : {P : Type 0} (object : ℤ) (m : Member) (ts : List (Option ValueType)) (fs : List (Doing Arg)) → EachKeeps P ts fs → (P → IsMember G.declarations m)
+  pub persistent_keeps : {P : Type 0} (object : ℤ) (m : Member) (ts : List (Option ValueType)) (fs : List (Doing Arg)) → EachKeeps P ts fs → (P → IsMember G.declarations m)
       → (P → (args : List Arg) → AllZip (ArgHas G.declarations) ts args → ArgumentsFit G.declarations m.formals args) → (P → MayCall S)
       → Keeps G vs P Arg (ArgFits (words_of_result G.declarations m.result)) (persistent_call (inside G S) object m fs)
   persistent_keeps object m ts fs r is fit may =
@@ -173,7 +173,7 @@ module _ (G : Frame) (S : Setting) (s : Sound G S) (blocks : List (List Declared
       answer_keeps G vs (words_of_result G.declarations m.result) args (give (arg_of_reply (get G.replies k)))
       (give_keeps G vs _ (λ p. reply_fits (words_of_result G.declarations m.result) (get G.replies k) p.0.1)))))
 
-  regular_keeps : {P : Type 0} (m : Member) (ts : List (Option ValueType)) (fs : List (Doing Arg)) → EachKeeps P ts fs → (P → RegularFits G.declarations m)
+  pub regular_keeps : {P : Type 0} (m : Member) (ts : List (Option ValueType)) (fs : List (Doing Arg)) → EachKeeps P ts fs → (P → RegularFits G.declarations m)
       → (P → (args : List Arg) → AllZip (ArgHas G.declarations) ts args → ArgumentsFit G.declarations m.formals args)
       → Keeps G vs P Arg (ArgFits (words_of_result G.declarations m.result)) (regular_call (inside G S) m fs)
   regular_keeps m ts fs r is fit =
