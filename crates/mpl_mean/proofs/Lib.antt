@@ -60,3 +60,4 @@ mod SizedExpressions
 mod SizedCallees
 mod SizedCalls
 mod SizedFlows
+mod SizedAssignments

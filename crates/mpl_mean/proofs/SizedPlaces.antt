@@ -123,7 +123,7 @@ pub record SpotRight (G : Frame) (S : Setting) (blocks : List (List Declared)) (
   pub shape : target_shape (here G S blocks) t ≡ shape_of G.declarations (Some declared)
   pub fits : SpotMaybe G.declarations G.state_words vs (Some declared) spot
 
-field_base : (ds : List Declaration) (total : ℕ) (vs : List Variable) (v : Option Variable) (offset words more size : ℕ) (is_whole : Bool) → BaseFits ds total vs v offset words is_whole → more + size ≤ words
+pub field_base : (ds : List Declaration) (total : ℕ) (vs : List Variable) (v : Option Variable) (offset words more size : ℕ) (is_whole : Bool) → BaseFits ds total vs v offset words is_whole → more + size ≤ words
     → BaseFits ds total vs v (offset + more) size false
 field_base ds total vs None offset words more size is_whole h k = omega arith
 field_base ds total vs (Some v) offset words more size is_whole h k = let i = h.0 in (omega arith, h.1, h.2, λ e. absurd cc)

@@ -7,6 +7,7 @@ use Rattle.mpl_ast.specs.declared.class.Formal.{Formal}
 use Rattle.mpl_ast.specs.declared.class.ResultType.{ResultType}
 use Rattle.mpl_ast.specs.declared.class.ResultType.TheVariants.{Void, Typed}
 use Rattle.mpl_ast.specs.declared.program.Declaration.{Declaration}
+use Rattle.mpl_ast.specs.declared.statement.TypeName.{TypeName}
 use Rattle.mpl_value.specs.declared.body.Arg.{Arg}
 use Rattle.mpl_value.specs.declared.body.CallMade.{CallMade}
 use Rattle.mpl_value.specs.declared.known.Known.{Known}
@@ -87,6 +88,8 @@ pub record Sound (G : Frame) (S : Setting) : Type 1 where
   pub own : (blocks : List (List Declared)) (name : List ℕ) → is_persistent S.class ≡ true → Callees G.declarations (IsMember G.declarations) (member_called (here G S blocks) None name) (member_named name S.context.members)
   pub replies : MayCall S → Every (CallReplyFits G.declarations G.replies) G.calls
   pub result : (result : ResultType) → S.body ≡ InMember result → G.result_words ≡ Some (words_of_result G.declarations result)
+  pub typed : (result : ResultType) → S.body ≡ InMember result → WellResult G.declarations result
+  pub function_typed : (type : TypeName) → S.body ≡ InFunction type → HasType G.declarations type
   pub returns : (words : List ℤ) → ReturnFits G.declarations S.body words → G.MayReturn words
   pub below : BelowFits G.declarations G.replies S.context.below
 

@@ -207,7 +207,7 @@ value_of_shape role dimension (AClass n true items) v e = absurd (no_regular (is
 value_of_shape role dimension (AClass n false items) v e = one_value dimension _ v e
 value_of_shape role dimension types.Nothing v e = one_value dimension _ v e
 
-array_of_shape : (role : Role) (dimension : Option Dimension) (m : Meant) (v : ValueType) → shape_of_meant role dimension m ≡ Some (AnArray v)
+pub array_of_shape : (role : Role) (dimension : Option Dimension) (m : Meant) (v : ValueType) → shape_of_meant role dimension m ≡ Some (AnArray v)
     → ((d : Dimension) × (dimension ≡ Some d)) × (value_type role m ≡ Some v)
 array_of_shape role dimension AnInt v e = an_array dimension _ v e
 array_of_shape role dimension ABool v e = an_array dimension _ v e
