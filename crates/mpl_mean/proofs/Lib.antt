@@ -61,3 +61,4 @@ mod SizedCallees
 mod SizedCalls
 mod SizedFlows
 mod SizedAssignments
+mod SizedLocals

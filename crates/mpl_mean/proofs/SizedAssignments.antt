@@ -46,7 +46,7 @@ use Rattle.mpl_mean.proofs.SizedTypes.{HasSize, WellProgram, same_size, shape_wo
 use Rattle.mpl_mean.proofs.SizedTyping.{element_size, target_there, type_there, whole_size}
 
 -- what is passed on with the type of a place has its words
-agree_arg : (ds : List Declaration) (s t : Option ValueType) (n : ℕ) (a : Arg) → HasSize ds s n → agree s t ≡ true → ArgHas ds t a → ArgFits n a
+pub agree_arg : (ds : List Declaration) (s t : Option ValueType) (n : ℕ) (a : Arg) → HasSize ds s n → agree s t ≡ true → ArgHas ds t a → ArgFits n a
 agree_arg ds None t n a h e k = absurd h
 agree_arg ds (Some s) None n a h e k = absurd k
 agree_arg ds (Some s) (Some t) n a h e k = subst (λ m. ArgFits m a) (sym (h ∙ same_size ds s t e)) k

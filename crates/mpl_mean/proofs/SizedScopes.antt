@@ -39,6 +39,12 @@ then_moves {G} {vs} {P} Q R {f} {g} t r = then_triple G (λ s. P × Fits G vs s)
   further added (Returns words s) i = i
   further added (Ends e s) i = i
 
+-- a value, and then what is done with it
+pub keeps_then_moves : {G : Frame} {vs : List Variable} {P : Type 0} {A : Type 0} (V : A → Type 0) (Q : List Variable → Type 0) {f : Doing A} {h : A → Effect} → Keeps G vs P A V f
+    → ((a : A) → Moves G vs (P × V a) Q (h a)) → Moves G vs P Q (f >>= h)
+keeps_then_moves {G} {vs} {P} {A} V Q {f} {h} t r =
+    then_triple G (λ s. P × Fits G vs s) (λ a s. (P × V a) × Fits G vs s) (λ _ s. Moved G vs P Q s) f h t (λ a. concludes G (λ _ s q. (q.0.0, q.1)) (r a))
+
 pub declare_moves : {G : Frame} {vs : List Variable} {P : Type 0} (Q : List Variable → Type 0) (v : Variable) → (P → VariableFits G.declarations v) → (P → Q (bare v ∷ vs))
     → Moves G vs P Q (declare v)
 declare_moves {G} {vs} Q v m r = record {
