@@ -62,3 +62,4 @@ mod SizedCalls
 mod SizedFlows
 mod SizedAssignments
 mod SizedLocals
+mod SizedStatements

@@ -124,15 +124,18 @@ abbrev pub blocks_behind : TypeName → List NewLocal → List (List Declared) �
 blocks_behind type [] blocks = blocks
 blocks_behind type (new ∷ others) blocks = blocks_behind type others (with_last (declared_local type new) blocks)
 
-module _ (G : Frame) (S : Setting) (s : Sound G S) (type : TypeName) (known : is_meant (meant G.declarations type) ≡ true) where
+module _ (G : Frame) (S : Setting) (s : Sound G S) (type : TypeName) where
+  abbrev Known : Type 0
+  Known = is_meant (meant G.declarations type) ≡ true
+
   abbrev LocalsReady : List (List Declared) → List Variable → List NewLocal → Type 0
-  LocalsReady blocks vs news = Matches G S blocks vs × AllRight (locals_walk type news (here G S blocks)).nodes
+  LocalsReady blocks vs news = Matches G S blocks vs × AllRight (locals_walk type news (here G S blocks)).nodes × Known
 
   -- the nodes of the first local
   abbrev first_nodes : List (List Declared) → NewLocal → List Placed
   first_nodes blocks new = (local_walk type new (here G S blocks)).nodes
 
-  one_moves : (blocks : List (List Declared)) (vs : List Variable) (d : Declarator) → Moves G vs (Matches G S blocks vs × AllRight (first_nodes blocks (new_local d)))
+  one_moves : (blocks : List (List Declared)) (vs : List Variable) (d : Declarator) → Moves G vs (Matches G S blocks vs × AllRight (first_nodes blocks (new_local d)) × Known)
       (Matches G S (with_last (declared_local type (new_local d)) blocks)) (declares (inside G S) type d)
   one_moves blocks vs (Plain at variable dimension) =
       declare_moves (Matches G S (with_last (declared_local type (new_local (Plain at variable dimension))) blocks)) _ (λ p. length-replicate (words_of G.declarations type (dimension_of dimension)) (pos 0))
@@ -140,7 +143,7 @@ module _ (G : Frame) (S : Setting) (s : Sound G S) (type : TypeName) (known : is
       let h = here G S blocks in
       let right = p.1 in
       matches_more G S blocks vs (declared_local type (new_local (Plain at variable dimension))) _ (refl, refl, refl)
-      (local_shape dimension (meant G.declarations type) known, dimension_element G S blocks type dimension (every_left Right (dimension_nodes h type dimension) _ right.1))
+      (local_shape dimension (meant G.declarations type) p.2, dimension_element G S blocks type dimension (every_left Right (dimension_nodes h type dimension) _ right.1))
       (not_true _ right.0.new) p.0)
   one_moves blocks vs (Initialized at variable value) =
       let h = here G S blocks in
@@ -152,9 +155,9 @@ module _ (G : Frame) (S : Setting) (s : Sound G S) (type : TypeName) (known : is
       (λ p.
       let two = two_true (is_no_regular (shape_of G.declarations (Some d))) (agree (type_of_whole (shape_of G.declarations (Some d))) (type_of h (phrase_of_flow value))) (p.0.1).1.0.right_side in
       agree_arg G.declarations (type_of_whole (shape_of G.declarations (Some d))) (type_of h (phrase_of_flow value)) (words_of G.declarations type None) a
-      (whole_size s.well d (words_of G.declarations type None) (shape_of G.declarations (Some d)) refl (local_shape None (meant G.declarations type) known)
+      (whole_size s.well d (words_of G.declarations type None) (shape_of G.declarations (Some d)) refl (local_shape None (meant G.declarations type) p.0.2)
       (one_of G.declarations variable.text type (shape_of G.declarations (Some d)) refl two.0) refl) two.1 p.1)
-      (λ p. matches_more G S blocks vs d _ (refl, refl, refl) (local_shape None (meant G.declarations type) known, tt) (not_true _ (p.0.1).0.new) p.0.0))
+      (λ p. matches_more G S blocks vs d _ (refl, refl, refl) (local_shape None (meant G.declarations type) p.0.2, tt) (not_true _ (p.0.1).0.new) p.0.0))
 
   all_split : (blocks : List (List Declared)) (d : Declarator) (ds : List Declarator) → AllRight (locals_walk type (map new_local (d ∷ ds)) (here G S blocks)).nodes
       → AllRight (first_nodes blocks (new_local d)) × AllRight (locals_walk type (map new_local ds) (here G S (with_last (declared_local type (new_local d)) blocks))).nodes
@@ -170,7 +173,7 @@ module _ (G : Frame) (S : Setting) (s : Sound G S) (type : TypeName) (known : is
       let h = here G S blocks in
       let first = with_last (declared_local type (new_local d)) blocks in
       let others = locals_walk type (map new_local ds) (here G S first) in
-      then_moves (λ ws. Matches G S first ws × AllRight others.nodes) (Matches G S (blocks_behind type (map new_local ds) first)) {f = declares (inside G S) type d} {g = in_turn (map (declares (inside G S) type) ds)}
-      (so_moves (Matches G S first) (λ ws. Matches G S first ws × AllRight others.nodes) (λ p. (p.0, (all_split blocks d ds p.1).0))
-      (λ ws p m. (m, (all_split blocks d ds p.1).1)) (one_moves blocks vs d))
+      then_moves (λ ws. Matches G S first ws × AllRight others.nodes × Known) (Matches G S (blocks_behind type (map new_local ds) first)) {f = declares (inside G S) type d} {g = in_turn (map (declares (inside G S) type) ds)}
+      (so_moves (Matches G S first) (λ ws. Matches G S first ws × AllRight others.nodes × Known) (λ p. (p.0, (all_split blocks d ds p.1).0, p.2))
+      (λ ws p m. (m, (all_split blocks d ds p.1).1, p.2)) (one_moves blocks vs d))
       (λ ws. so_moves (Matches G S (blocks_behind type (map new_local ds) first)) (Matches G S (blocks_behind type (map new_local ds) first)) (λ p. p.1) (λ vs p m. m) (locals_move first ws ds))
