@@ -63,3 +63,4 @@ mod SizedFlows
 mod SizedAssignments
 mod SizedLocals
 mod SizedStatements
+mod SizedBodies

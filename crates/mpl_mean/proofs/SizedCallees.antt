@@ -11,7 +11,7 @@ use Rattle.mpl_ast.specs.declared.statement.Dimension.{Dimension}
 use Rattle.mpl_ast.specs.declared.statement.TypeName.{TypeName}
 use Rattle.mpl_ast.specs.declared.statement.TypeName.TheVariants as type
 use Rattle.mpl_mean.specs.CallRules.{can_be_called}
-use Rattle.mpl_mean.specs.Layout.{Class, Member, class_named, class_of_type, classes_of, is_regular, member_named, members_from}
+use Rattle.mpl_mean.specs.Layout.{Class, Member, class_named, class_of_type, classes_of, is_regular, member_named, members_from, state_of}
 use Rattle.mpl_mean.specs.Scopes.{Surrounding}
 use Rattle.mpl_mean.specs.Sizes.{Every}
 use Rattle.mpl_mean.specs.Types.{AClass, ABool, AnInt, AStruct, Declared, Meant, OfBool, OfClass, OfInt, OfStruct, Role, Shape, AnArray, ARegular, OneValue, ValueType, is_field, is_local, meant, meant_by, shape_of, shape_of_meant, shape_with, value_type}
@@ -173,21 +173,21 @@ pub callees_of : {ds : List Declaration} → WellProgram ds → (name meant : Li
     → class_named name (classes_of ds) ≡ Some class → (member : List ℕ)
     → Callees ds (MemberOf ds regular) (member_of member items) (member_named member class.members)
 callees_of {ds} well name meant regular items e class i member = found (class_of well name meant regular items e) where
-  join : (c : Class) (first : ℕ) (n m : Option Member) → member_named member c.members ≡ m → ((m : Member) → member_named member c.members ≡ Some m → IsMember ds m)
+  join : (c : Class) (first : ℕ) (n m : Option Member) → (regular ≡ true → state_of items ≡ []) → member_named member c.members ≡ m → ((m : Member) → member_named member c.members ≡ Some m → IsMember ds m)
       → ((m : Member) → member_named member c.members ≡ Some m → WellMember ds (record { name = name; is_regular = regular; items = items }) m.result m.formals m.body)
       → Alike n m → Callees ds (MemberOf ds regular) n m
-  join c first None None j k w a = tt
-  join c first None (Some m) j k w a = absurd a
-  join c first (Some n) None j k w a = absurd a
-  join c first (Some n) (Some m) j k w a =
+  join c first None None z j k w a = tt
+  join c first None (Some m) z j k w a = absurd a
+  join c first (Some n) None z j k w a = absurd a
+  join c first (Some n) (Some m) z j k w a =
       let r = w m j in
       (record { formals = a.0; result = a.1; well = r.0.0; typed = r.1 },
-      record { is = k m j; in_place = λ t. record { class = record { name = name; is_regular = regular; items = items }; regular = t; well = r } })
+      record { is = k m j; in_place = λ t. record { class = record { name = name; is_regular = regular; items = items }; regular = t; stateless = z t; well = r } })
 
   found : ClassFound ds name regular items 0 0 ds → Callees ds (MemberOf ds regular) (member_of member items) (member_named member class.members)
   found f =
       subst (λ (c : Class). Callees ds (MemberOf ds regular) (member_of member items) (member_named member c.members)) (found_class (sym f.found ∙ i))
-      (join f.class f.first (member_of member items) (member_named member (f.class).members) refl (λ m j. (f.class, (f.numbered member m j).1))
+      (join f.class f.first (member_of member items) (member_named member (f.class).members) (f.right).2 refl (λ m j. (f.class, (f.numbered member m j).1))
       (λ m j. member_well ds _ member f.first items m (f.right).0 (subst (λ ms. member_named member ms ≡ Some m) f.members j))
       (subst (λ ms. Alike (member_of member items) (member_named member ms)) (sym f.members) (members_alike member 0 f.first items)))
 

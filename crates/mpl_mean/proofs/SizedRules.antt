@@ -14,6 +14,7 @@ use Rattle.mpl_ast.specs.declared.statement.Dimension.{Dimension}
 use Rattle.mpl_ast.specs.declared.statement.TypeName.{TypeName}
 use Rattle.mpl_mean.specs.Actions.{actions_of}
 use Rattle.mpl_mean.specs.CallRules.{plain_call_fits, member_call_fits, void_call_is_alone, call_is_in_place, self_is_in_place}
+use Rattle.mpl_mean.specs.ClassRules.{state_is_persistent}
 use Rattle.mpl_mean.specs.ExpressionRules.{operands_fit, index_fits, place_may_stand, field_is_of_struct, right_side_fits}
 use Rattle.mpl_mean.specs.Layout.{formals_of, state_of}
 use Rattle.mpl_mean.specs.NameRules.{name_is_known, name_is_new, main_is_there}
@@ -34,6 +35,7 @@ pub record Right (p : Placed) : Type 0 where
   pub main : main_is_there p.here p.node ≡ true
   pub stands : type_may_stand p.here p.node ≡ true
   pub dimension : dimension_fits p.here p.node ≡ true
+  pub state : state_is_persistent p.here p.node ≡ true
   pub operands : operands_fit p.here p.node ≡ true
   pub index : index_fits p.here p.node ≡ true
   pub place : place_may_stand p.here p.node ≡ true
@@ -91,6 +93,7 @@ all_right (p ∷ ps) e =
       main = h.1.1.0;
       stands = h.1.1.1.0;
       dimension = h.1.1.1.1.0;
+      state = h.1.1.1.1.1.1.1.1.0;
       operands = h.1.1.1.1.1.1.1.1.1.1.1.1.0;
       index = h.1.1.1.1.1.1.1.1.1.1.1.1.1.0;
       place = h.1.1.1.1.1.1.1.1.1.1.1.1.1.1.0;
@@ -141,7 +144,8 @@ WellItem ds class (item.Member at result name formals body) = WellMember ds clas
 WellItem ds class other = Unit {0}
 
 abbrev pub WellClass : List Declaration → Surrounding → Type 0
-WellClass ds class = Every (WellItem ds class) class.items × Every (WellDeclared ds) (declared_fields InState (state_of class.items))
+WellClass ds class =
+    Every (WellItem ds class) class.items × Every (WellDeclared ds) (declared_fields InState (state_of class.items)) × (class.is_regular ≡ true → state_of class.items ≡ [])
 
 -- `main` has no formals
 abbrev pub WellMain : List ℕ → List Formal → Type 0

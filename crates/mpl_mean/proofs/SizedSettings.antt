@@ -13,7 +13,7 @@ use Rattle.mpl_value.specs.declared.body.CallMade.{CallMade}
 use Rattle.mpl_value.specs.declared.known.Known.{Known}
 use Rattle.mpl_mean.specs.CallRules.{call_may_stand}
 use Rattle.mpl_mean.specs.Context.{Below, Context}
-use Rattle.mpl_mean.specs.Layout.{Function, Member, Part, dimension_of, member_named, part_named, words_of}
+use Rattle.mpl_mean.specs.Layout.{Function, Member, Part, dimension_of, member_named, part_named, state_of, words_of}
 use Rattle.mpl_mean.specs.Scopes.{Body, Here, InFunction, InMember, Surrounding, is_persistent, state_members, variable_of}
 use Rattle.mpl_mean.specs.Sizes.{ArgFits, CallReplyFits, Every, words_of_result}
 use Rattle.mpl_mean.specs.Store.{Doing, Variable, variable_named}
@@ -48,6 +48,7 @@ pub record PlainFits (ds : List Declaration) (f : Function) : Type 0 where
 pub record RegularFits (ds : List Declaration) (m : Member) : Type 0 where
   pub class : Surrounding
   pub regular : class.is_regular ≡ true
+  pub stateless : state_of class.items ≡ []
   pub well : WellMember ds class m.result m.formals m.body
 
 abbrev pub frame : List Declaration → FinMap nat_cmp Known → ℕ → Option ℕ → List CallMade → (List ℤ → Type 0) → Frame

@@ -1,3 +1,4 @@
+use Rattle.mpl_mean.proofs.SizedBodies.{run_moves}
 use Rattle.mpl_mean.proofs.SizedStatements.{blocks_after}
 use Rattle.mpl_mean.proofs.SizedLocals.{locals_move}
 use Rattle.mpl_mean.proofs.SizedAssignments.{create_keeps}
