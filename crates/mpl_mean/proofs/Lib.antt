@@ -64,3 +64,5 @@ mod SizedAssignments
 mod SizedLocals
 mod SizedStatements
 mod SizedBodies
+mod SizedLevels
+mod SizedPrograms

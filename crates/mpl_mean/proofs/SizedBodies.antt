@@ -107,7 +107,7 @@ at_fits n end.Waits result.Unknown h = h
 at_fits n end.Spent result.Unknown h = h
 at_fits n (end.Trap t) result.Unknown h = h
 
-arg_of_fits : (n : ℕ) (r : BodyResult) → ResultFits (Some n) r → ArgFits n (arg_of_result r)
+pub arg_of_fits : (n : ℕ) (r : BodyResult) → ResultFits (Some n) r → ArgFits n (arg_of_result r)
 arg_of_fits n result.Open h = tt
 arg_of_fits n (result.Known (known.Value words)) h = h
 arg_of_fits n (result.Known (known.Trapped t)) h = tt
@@ -115,17 +115,17 @@ arg_of_fits n result.Unknown h = tt
 
 -- ---- settings of bodies that are called in place
 
-abbrev setting : Option Surrounding → Body → List Declared → Context → Setting
+abbrev pub setting : Option Surrounding → Body → List Declared → Context → Setting
 setting class body formals x = record { class = class; body = body; formals = formals; context = x }
 
-member_is : {a b : ResultType} → InMember a ≡ InMember b → a ≡ b
+pub member_is : {a b : ResultType} → InMember a ≡ InMember b → a ≡ b
 member_is e = cc
 
 function_is : {a b : TypeName} → InFunction a ≡ InFunction b → a ≡ b
 function_is e = cc
 
 module _ (ds : List Declaration) (well : WellProgram ds) (replies : FinMap nat_cmp Known) (turns : ℕ) (b : Below) (below : BelowFits ds replies b) where
-  abbrev context : Context
+  abbrev pub context : Context
   context = context_with ds turns replies b
 
   -- for what is only to grow, nothing is asked
@@ -156,7 +156,7 @@ module _ (ds : List Declaration) (well : WellProgram ds) (replies : FinMap nat_c
     below = below;
   }
 
-  plain_keeps : (state : ℕ) (result : Option ℕ) (calls : List CallMade) (May : List ℤ → Type 0) (vs : List Variable) (f : Function) (arguments : List (List ℤ))
+  pub plain_keeps : (state : ℕ) (result : Option ℕ) (calls : List CallMade) (May : List ℤ → Type 0) (vs : List Variable) (f : Function) (arguments : List (List ℤ))
       → Keeps (frame ds replies state result calls May) vs (PlainFits ds f × WordsFit ds f.formals arguments) (List ℤ) (λ words. length words ≡ words_of ds f.result None) (plain_body context f arguments)
   plain_keeps state result calls May vs f arguments = record {
     grows = λ s.

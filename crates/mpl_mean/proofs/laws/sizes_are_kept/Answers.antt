@@ -1,3 +1,5 @@
+use Rattle.mpl_mean.proofs.SizedPrograms.{well_program}
+use Rattle.mpl_mean.proofs.SizedLevels.{below_fits}
 use Rattle.mpl_mean.proofs.SizedBodies.{run_moves}
 use Rattle.mpl_mean.proofs.SizedStatements.{blocks_after}
 use Rattle.mpl_mean.proofs.SizedLocals.{locals_move}
