@@ -66,3 +66,4 @@ mod SizedStatements
 mod SizedBodies
 mod SizedLevels
 mod SizedPrograms
+mod SizedStarts

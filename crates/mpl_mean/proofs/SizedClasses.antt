@@ -81,7 +81,7 @@ none_above k id (item.Empty at ∷ items) h = none_above k id items h
 abbrev member_at : ℕ → ResultType → Name → Option Formals → Block → Member
 member_at id result member formals body = record { id = id; name = member.text; result = result; formals = formals_of formals; body = body }
 
-abbrev class_at : ℕ → ℕ → Kind → Name → List Item → Class
+abbrev pub class_at : ℕ → ℕ → Kind → Name → List Item → Class
 class_at number id kind class items = record { number = number; name = class.text; is_regular = is_regular kind; state = state_of items; members = members_from id items }
 
 -- the member of a name has a number in its class, and is what is found by it

@@ -1,3 +1,4 @@
+use Rattle.mpl_mean.proofs.SizedStarts.{class_numbered}
 use Rattle.mpl_mean.proofs.SizedPrograms.{well_program}
 use Rattle.mpl_mean.proofs.SizedLevels.{below_fits}
 use Rattle.mpl_mean.proofs.SizedBodies.{run_moves}
