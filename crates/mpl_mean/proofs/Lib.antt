@@ -67,3 +67,4 @@ mod SizedBodies
 mod SizedLevels
 mod SizedPrograms
 mod SizedStarts
+mod SizedYields
