@@ -1,6 +1,6 @@
 -- Calls that are made, and what answers them.
-use Rattle.std.proofs.Common.{◌≡◌, ℕ, ◌+◌, Bool, true, false, ◌||◌, List, [], ◌∷◌, ◌++◌, length, map, Option, Some, None, if◌then◌else◌, ℤ, refl, sym, ap, subst}
-use Rattle.std.specs.FinMap.{FinMap, get}
+use Rattle.std.proofs.Common.{◌≡◌, ℕ, ◌+◌, Bool, true, false, List, [], ◌∷◌, ◌++◌, length, Option, Some, None, if◌then◌else◌, ℤ, refl, sym, subst}
+use Rattle.std.specs.FinMap.{get}
 use Rattle.std.specs.List.{AllZip}
 use Rattle.mpl_ast.specs.declared.class.Formal.{Formal}
 use Rattle.mpl_ast.specs.declared.program.Declaration.{Declaration}
@@ -12,11 +12,11 @@ use Rattle.mpl_value.specs.declared.known.Known.TheVariants as known
 use Rattle.mpl_value.specs.declared.known.Trap.{Trap}
 use Rattle.mpl_mean.specs.CallMeaning.{any_unknown, answer, arg_of_reply, known_words, leftmost_trap, made, unless_trapped}
 use Rattle.mpl_mean.specs.Layout.{Class, Member}
-use Rattle.mpl_mean.specs.MoreReplies.{Begins, IsFront}
+use Rattle.mpl_mean.specs.MoreReplies.{IsFront}
 use Rattle.mpl_mean.specs.Sizes.{ArgFits, ArgumentsFit, CallFits, CallReplyFits, Every, FoundCallFits, FoundReplyFits, ReplyFits, member_of_id, words_of_formal, words_of_result}
-use Rattle.mpl_mean.specs.Store.{Store, Doing, Variable, give, all_of}
+use Rattle.mpl_mean.specs.Store.{Doing, Variable, give, all_of}
 use Rattle.mpl_mean.proofs.Later.{Begins-append}
-use Rattle.mpl_mean.proofs.SizedSteps.{Frame, Keeps, give_keeps, then_keeps, from_premise, so_keeps}
+use Rattle.mpl_mean.proofs.SizedSteps.{Frame, Keeps, give_keeps, then_keeps, from_premise}
 use Rattle.mpl_mean.proofs.SizedStores.{every_append}
 
 -- one after another, each with what holds of its value

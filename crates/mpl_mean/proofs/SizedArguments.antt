@@ -1,15 +1,14 @@
 -- Arguments whose types are those of the formals have their words.
-use Rattle.std.proofs.Common.{◌≡◌, ℕ, ◌+◌, Bool, true, false, ◌&&◌, ◌||◌, ◌==◌, List, [], ◌∷◌, length, map, Option, Some, None, if◌then◌else◌, ℤ, refl, sym, ap, subst, ◌∙◌, arith}
+use Rattle.std.proofs.Common.{◌≡◌, ℕ, Bool, true, false, ◌&&◌, ◌||◌, ◌==◌, List, [], ◌∷◌, length, map, Option, Some, None, if◌then◌else◌, refl, sym, ap, subst, ◌∙◌, arith}
 use Rattle.std.proofs.lemmas.Bool.Decides.{nat_tests}
 use Rattle.std.specs.List.{AllZip, list_any}
 use Rattle.std.specs.Prelude.{is_none, is_some}
-use Rattle.std.specs.Option.{option_map}
 use Rattle.std.specs.Str.{bytes_eq}
 use Rattle.mpl_ast.specs.declared.class.Formal.{Formal}
 use Rattle.mpl_ast.specs.declared.program.Declaration.{Declaration}
 use Rattle.mpl_ast.specs.declared.program.Declaration.TheVariants as declaration
 use Rattle.mpl_value.specs.declared.body.Arg.{Arg}
-use Rattle.mpl_mean.specs.Layout.{Function, formals_of, function_named, words_of}
+use Rattle.mpl_mean.specs.Layout.{Function, formals_of, function_named}
 use Rattle.mpl_mean.specs.ProgramNodes.{function_body}
 use Rattle.mpl_mean.specs.Scopes.{InFunction, InMain, is_main}
 use Rattle.mpl_mean.specs.Sizes.{ArgFits, ArgumentsFit, Every, words_of_formal}
@@ -18,8 +17,7 @@ use Rattle.mpl_mean.specs.Typing.{all_agree, arguments_fit, formal_types}
 use Rattle.mpl_mean.specs.Values.{Value}
 use Rattle.mpl_mean.proofs.SizedAnswers.{WordsFit}
 use Rattle.mpl_mean.proofs.SizedClasses.{bytes_same}
-use Rattle.mpl_mean.proofs.SizedPlaces.{which}
-use Rattle.mpl_mean.proofs.SizedRules.{WellDeclaration, WellDeclared, WellFunction, WellRoutine}
+use Rattle.mpl_mean.proofs.SizedRules.{WellDeclaration, WellDeclared, WellRoutine}
 use Rattle.mpl_mean.proofs.SizedSettings.{PlainFits}
 use Rattle.mpl_mean.proofs.SizedTypes.{HasSize, WellProgram, same_size, size, type_words}
 

@@ -1,5 +1,5 @@
 -- What assignments and new objects do keeps the words of variables and of the state.
-use Rattle.std.proofs.Common.{◌≡◌, ℕ, ◌+◌, ◌≤◌, Bool, true, false, ◌&&◌, List, [], ◌∷◌, ◌++◌, length, Option, Some, None, ℤ, refl, sym, ap, subst, ◌∙◌, arith}
+use Rattle.std.proofs.Common.{◌≡◌, ℕ, ◌+◌, Bool, true, false, List, [], ◌∷◌, ◌++◌, length, Option, Some, None, ℤ, refl, sym, subst, ◌∙◌, arith}
 use Rattle.std.specs.Prelude.{is_some}
 use Rattle.mpl_ast.specs.declared.expression.Conjunction.{Conjunction}
 use Rattle.mpl_ast.specs.declared.expression.Conjunction.TheOpen.{Place-F}
@@ -16,19 +16,17 @@ use Rattle.mpl_ast.specs.declared.flow.Assignment.{Assignment}
 use Rattle.mpl_ast.specs.declared.program.Declaration.{Declaration}
 use Rattle.mpl_value.specs.declared.body.Arg.{Arg}
 use Rattle.mpl_value.specs.declared.body.Arg.TheVariants.{Know}
-use Rattle.mpl_mean.specs.CallMeaning.{class_of_spot, passes}
 use Rattle.mpl_mean.specs.CallRules.{is_object}
-use Rattle.mpl_mean.specs.ExpressionMeaning.{value_of}
 use Rattle.mpl_mean.specs.ExpressionRules.{can_be_indexed, is_one_value}
 use Rattle.mpl_mean.specs.Layout.{Class, class_of_type, dimension_of, words_of}
 use Rattle.mpl_mean.specs.Nodes.{phrase_nodes, place, target_nodes}
 use Rattle.mpl_mean.specs.Nodes as node
 use Rattle.mpl_mean.specs.Phrases.{Phrase, phrase_of, phrase_of_flow, phrase_of_place}
 use Rattle.mpl_mean.specs.Phrases as phrase
-use Rattle.mpl_mean.specs.PlaceMeaning.{Spot, base_of, index_of, put}
+use Rattle.mpl_mean.specs.PlaceMeaning.{Spot, index_of, put}
 use Rattle.mpl_mean.specs.Sizes.{ArgFits}
-use Rattle.mpl_mean.specs.StatementMeaning.{Effect, assign_place, assign_spot, assigns, at_spot, create_at, created, new_object}
-use Rattle.mpl_mean.specs.Store.{Doing, Variable, ◌>>=◌, ◌>>◌, force, hold, spend, waits}
+use Rattle.mpl_mean.specs.StatementMeaning.{Effect, assign_place, assign_spot, assigns, at_spot, create_at, new_object}
+use Rattle.mpl_mean.specs.Store.{Variable, ◌>>=◌, waits}
 use Rattle.mpl_mean.specs.Types.{Declared, OfBool, OfClass, OfInt, OfStruct, Shape, AnArray, ARegular, OneValue, ValueType, agree, shape_of}
 use Rattle.mpl_mean.specs.Typing.{target_shape, type_of, type_of_element, type_of_whole}
 use Rattle.mpl_mean.specs.Values.{Value, word_of}
@@ -37,10 +35,10 @@ use Rattle.mpl_mean.proofs.SizedArguments.{ArgHas}
 use Rattle.mpl_mean.proofs.SizedExpressionForms.{expression_means}
 use Rattle.mpl_mean.proofs.SizedExpressions.{value_keeps}
 use Rattle.mpl_mean.proofs.SizedFlows.{flow_keeps}
-use Rattle.mpl_mean.proofs.SizedPlaces.{BaseFits, SpotFits, SpotRight, base_keeps, field_base, index_keeps, put_keeps, spot_keeps, which}
-use Rattle.mpl_mean.proofs.SizedRules.{AllRight, Right, WellDeclared, every_left, every_right}
+use Rattle.mpl_mean.proofs.SizedPlaces.{BaseFits, SpotRight, base_keeps, field_base, index_keeps, put_keeps, spot_keeps, which}
+use Rattle.mpl_mean.proofs.SizedRules.{AllRight, Right, every_left, every_right}
 use Rattle.mpl_mean.proofs.SizedSettings.{Matches, Setting, Sound, here, inside}
-use Rattle.mpl_mean.proofs.SizedSteps.{Frame, Keeps, bare, force_keeps, from_premise, so_keeps, spend_keeps, stop_keeps, then_keeps, variable_words}
+use Rattle.mpl_mean.proofs.SizedSteps.{Frame, Keeps, bare, force_keeps, from_premise, so_keeps, spend_keeps, stop_keeps, then_keeps}
 use Rattle.mpl_mean.proofs.SizedStores.{created_keeps, hold_keeps}
 use Rattle.mpl_mean.proofs.SizedTypes.{HasSize, WellProgram, same_size, shape_words, size}
 use Rattle.mpl_mean.proofs.SizedTyping.{element_size, target_there, type_there, whole_size}

@@ -1,7 +1,6 @@
 -- Bodies that are called in place keep the sizes.
-use Rattle.std.proofs.Common.{◌≡◌, ℕ, zero, suc, ◌+◌, Bool, true, false, not, List, [], ◌∷◌, ◌++◌, length, map, Option, Some, None, if◌then◌else◌, ℤ, pos, refl, sym, ap, subst, ◌∙◌}
+use Rattle.std.proofs.Common.{◌≡◌, ℕ, Bool, true, false, List, [], ◌∷◌, ◌++◌, length, map, Option, Some, None, if◌then◌else◌, ℤ, refl, ap, subst}
 use Rattle.std.specs.FinMap.{FinMap}
-use Rattle.std.specs.List.{AllZip}
 use Rattle.std.specs.Ordering.{nat_cmp}
 use Rattle.std.specs.Str.{bytes_eq}
 use Rattle.mpl_ast.specs.declared.class.Formal.{Formal}
@@ -10,8 +9,7 @@ use Rattle.mpl_ast.specs.declared.class.ResultType.TheVariants.{Void, Typed}
 use Rattle.mpl_ast.specs.declared.program.Declaration.{Declaration}
 use Rattle.mpl_ast.specs.declared.statement.Statement.{Statement}
 use Rattle.mpl_ast.specs.declared.statement.TypeName.{TypeName}
-use Rattle.mpl_value.specs.declared.body.Arg.{Arg}
-use Rattle.mpl_value.specs.declared.body.Arg.TheVariants.{Know, Unknown}
+use Rattle.mpl_value.specs.declared.body.Arg.TheVariants.{Unknown}
 use Rattle.mpl_value.specs.declared.body.BodyEnd.{BodyEnd}
 use Rattle.mpl_value.specs.declared.body.BodyEnd.TheVariants as end
 use Rattle.mpl_value.specs.declared.body.BodyResult.{BodyResult}
@@ -21,27 +19,27 @@ use Rattle.mpl_value.specs.declared.known.Known.{Known}
 use Rattle.mpl_value.specs.declared.known.Known.TheVariants as known
 use Rattle.mpl_mean.specs.Actions.{Actions, action_of, actions_of}
 use Rattle.mpl_mean.specs.Actions as action
-use Rattle.mpl_mean.specs.BodyMeaning.{arg_of_result, back_with, below_at, context_with, formals_holding, member_end, plain_body, regular_body, result_at, result_at_end, run, store_of, store_with, with_variables}
+use Rattle.mpl_mean.specs.BodyMeaning.{arg_of_result, context_with, formals_holding, plain_body, result_at, result_at_end, run, with_variables}
 use Rattle.mpl_mean.specs.Context.{Below, Context}
-use Rattle.mpl_mean.specs.Layout.{Function, Member, Part, part_named, words_of}
+use Rattle.mpl_mean.specs.Layout.{Function, Part, words_of}
 use Rattle.mpl_mean.specs.MoreReplies.{IsFront}
-use Rattle.mpl_mean.specs.Scopes.{Body, InFunction, InMember, NoBody, Surrounding, is_persistent, state_members}
-use Rattle.mpl_mean.specs.Sizes.{ArgFits, Every, ResultFits, words_of_formal, words_of_result}
+use Rattle.mpl_mean.specs.Scopes.{Body, InFunction, InMember, NoBody, Surrounding}
+use Rattle.mpl_mean.specs.Sizes.{ArgFits, Every, ResultFits, words_of_result}
 use Rattle.mpl_mean.specs.StatementMeaning.{Does, does}
 use Rattle.mpl_mean.specs.StatementNodes.{actions_walk}
-use Rattle.mpl_mean.specs.Store.{Store, Outcome, Goes, Returns, Ends, Doing, Variable, in_turn, spend, stop, variable_named}
+use Rattle.mpl_mean.specs.Store.{Store, Outcome, Goes, Returns, Ends, Variable, in_turn, spend, variable_named}
 use Rattle.mpl_mean.specs.Types.{Declared, declared_fields, declared_formals, first_named}
 use Rattle.mpl_mean.specs.Types as types
-use Rattle.mpl_mean.proofs.ComesBack.{after_plain, after_regular}
+use Rattle.mpl_mean.proofs.ComesBack.{after_plain}
 use Rattle.mpl_mean.proofs.Follows.{store_after}
 use Rattle.mpl_mean.proofs.SizedAnswers.{WordsFit}
 use Rattle.mpl_mean.proofs.SizedParts.{PartFits}
-use Rattle.mpl_mean.proofs.SizedRules.{AllRight, HasType, WellDeclared, WellResult}
+use Rattle.mpl_mean.proofs.SizedRules.{AllRight, HasType, WellDeclared}
 use Rattle.mpl_mean.proofs.SizedScopes.{Moved, Moves, so_moves, still_moves, then_moves}
-use Rattle.mpl_mean.proofs.SizedSettings.{BelowFits, Matches, MayCall, PlaceFits, PlainFits, RegularFits, Setting, Sound, frame, here, inside}
+use Rattle.mpl_mean.proofs.SizedSettings.{BelowFits, Matches, PlaceFits, PlainFits, Setting, Sound, frame, here, inside}
 use Rattle.mpl_mean.proofs.SizedStatementForms.{statements_act}
 use Rattle.mpl_mean.proofs.SizedStatements.{acts_each}
-use Rattle.mpl_mean.proofs.SizedSteps.{After, Fits, Frame, Keeps, Rest, RestFits, Triple, VariableFits, Within, bare, front_itself, spend_keeps, stop_keeps, then_keeps}
+use Rattle.mpl_mean.proofs.SizedSteps.{After, Fits, Frame, Keeps, VariableFits, Within, bare, spend_keeps}
 use Rattle.mpl_mean.proofs.SizedTypes.{WellProgram}
 
 -- ---- a turn and the statements of a body

@@ -1,6 +1,6 @@
 -- The member that is called on a target, as the type rules see it and as it is found in its class.
-use Rattle.std.proofs.Common.{◌≡◌, ℕ, ◌+◌, ◌≤◌, Bool, true, false, ◌&&◌, List, [], ◌∷◌, length, Option, Some, None, if◌then◌else◌, refl, sym, ap, subst, ◌∙◌}
-use Rattle.std.specs.Option.{option_and_then, option_map}
+use Rattle.std.proofs.Common.{◌≡◌, ℕ, ◌+◌, Bool, true, false, List, [], ◌∷◌, Option, Some, None, if◌then◌else◌, refl, sym, ap, subst, ◌∙◌}
+use Rattle.std.specs.Option.{option_map}
 use Rattle.std.specs.Prelude.{is_some}
 use Rattle.std.specs.Str.{bytes_eq}
 use Rattle.mpl_ast.specs.declared.class.Item.{Item}
@@ -18,9 +18,9 @@ use Rattle.mpl_mean.specs.Types.{AClass, ABool, AnInt, AStruct, Declared, Meant,
 use Rattle.mpl_mean.specs.Types as types
 use Rattle.mpl_mean.specs.Typing.{items_called, items_of_meant, member_of}
 use Rattle.mpl_mean.proofs.SizedAnswers.{IsMember}
-use Rattle.mpl_mean.proofs.SizedClasses.{ClassFound, bytes_same}
-use Rattle.mpl_mean.proofs.SizedRules.{WellClass, WellItem, WellMember}
-use Rattle.mpl_mean.proofs.SizedSettings.{Callee, Callees, RegularFits}
+use Rattle.mpl_mean.proofs.SizedClasses.{ClassFound}
+use Rattle.mpl_mean.proofs.SizedRules.{WellItem, WellMember}
+use Rattle.mpl_mean.proofs.SizedSettings.{Callees, RegularFits}
 use Rattle.mpl_mean.proofs.SizedTypes.{WellProgram, class_of, not_bool, not_int, value_of_shape}
 
 -- ---- members with other numbers

@@ -1,47 +1,40 @@
 -- What is passed on has the words of its type, and calls are made with the arguments that are asked for.
-use Rattle.std.proofs.Common.{◌≡◌, ℕ, ◌+◌, Bool, true, false, ◌&&◌, List, [], ◌∷◌, ◌++◌, length, map, Option, Some, None, if◌then◌else◌, ℤ, pos, refl, sym, ap, subst, ◌∙◌}
+use Rattle.std.proofs.Common.{◌≡◌, ℕ, Bool, true, false, ◌&&◌, List, [], Option, Some, None, if◌then◌else◌, ℤ, pos, refl, sym, ap, subst, ◌∙◌}
 use Rattle.std.specs.FinMap.{get}
 use Rattle.std.specs.List.{AllZip}
-use Rattle.std.specs.Option.{option_and_then, option_map}
 use Rattle.std.specs.Ordering.{int_eq}
-use Rattle.std.specs.Prelude.{is_some}
 use Rattle.mpl_ast.specs.declared.class.ResultType.{ResultType}
 use Rattle.mpl_ast.specs.declared.class.ResultType.TheVariants as kind
 use Rattle.mpl_ast.specs.declared.expression.Expression.{Expression}
-use Rattle.mpl_ast.specs.declared.expression.Target.{Target}
 use Rattle.mpl_ast.specs.declared.expression.Target.TheVariants as target
-use Rattle.mpl_ast.specs.declared.place.Name.{Name}
 use Rattle.mpl_ast.specs.declared.program.Declaration.{Declaration}
 use Rattle.mpl_value.specs.declared.body.Arg.{Arg}
-use Rattle.mpl_value.specs.declared.body.Arg.TheVariants.{Know, Trapped, Unknown}
-use Rattle.mpl_mean.specs.CallMeaning.{MayName, Passes, answer, any_unknown, arg_of_reply, at_context, bound, call_of_member, call_on, call_on_target, class_of_spot, held_or, known_words, leftmost_trap, made, name_of_target, pass, persistent_call, regular_call, whole_name, whole_variable}
-use Rattle.mpl_mean.specs.CallRules.{call_may_stand, can_be_called, member_has_value, member_takes}
+use Rattle.mpl_value.specs.declared.body.Arg.TheVariants.{Know}
+use Rattle.mpl_mean.specs.CallMeaning.{MayName, answer, arg_of_reply, bound, call_of_member, held_or, known_words, made, pass, persistent_call, regular_call, whole_name, whole_variable}
+use Rattle.mpl_mean.specs.CallRules.{call_may_stand, member_has_value}
 use Rattle.mpl_mean.specs.ClassRules.{has_value}
-use Rattle.mpl_mean.specs.ExpressionMeaning.{Evaluates, value_of}
+use Rattle.mpl_mean.specs.ExpressionMeaning.{Evaluates}
 use Rattle.mpl_mean.specs.ExpressionRules.{is_one_value}
-use Rattle.mpl_mean.specs.Layout.{Class, Member, class_named, class_of_type, classes_of, dimension_of, member_named, part_named, words_of}
-use Rattle.mpl_mean.specs.NameRules.{has_member}
-use Rattle.mpl_mean.specs.Nodes.{call_nodes, nodes_of_each, phrase_nodes, receiver_nodes, target_nodes}
+use Rattle.mpl_mean.specs.Layout.{Member, part_named, words_of}
+use Rattle.mpl_mean.specs.Nodes.{nodes_of_each, phrase_nodes}
 use Rattle.mpl_mean.specs.Phrases.{Phrase, Phrases, phrase_of}
 use Rattle.mpl_mean.specs.Phrases as phrase
-use Rattle.mpl_mean.specs.PlaceMeaning.{Spot, spot_of, words_of_spot}
 use Rattle.mpl_mean.specs.Scopes.{Body, InFunction, InGuard, InMain, InMember, NoBody, Surrounding, is_in_member, is_persistent, variable_of}
-use Rattle.mpl_mean.specs.Sizes.{ArgFits, ArgumentsFit, CallReplyFits, Every, words_of_result}
-use Rattle.mpl_mean.specs.Store.{Doing, Variable, ◌>>=◌, ◌>>◌, all_of, give, spend, variable_named}
-use Rattle.mpl_mean.specs.Types.{AsResult, Declared, OfClass, OneValue, Shape, ValueType, declared_formals, meant, result_type, shape_of, value_type}
-use Rattle.mpl_mean.specs.Typing.{arguments_fit, formal_types, member_called, member_of, items_called, receiver_shape, target_shape, type_of, type_of_call, type_of_whole, types_of}
-use Rattle.mpl_mean.specs.Values.{Value, first_word}
-use Rattle.mpl_mean.proofs.SizedAnswers.{IsMember, WordsFit, all_keep, answer_keeps, known_fit, made_keeps, reply_fits, zip_from}
-use Rattle.mpl_mean.proofs.SizedArguments.{ArgHas, ValueHas, args_fit, two_true}
-use Rattle.mpl_mean.proofs.SizedCallees.{ClassOf, MemberOf, callees_of, class_at}
+use Rattle.mpl_mean.specs.Sizes.{ArgFits, ArgumentsFit, words_of_result}
+use Rattle.mpl_mean.specs.Store.{Doing, Variable, ◌>>=◌, give, variable_named}
+use Rattle.mpl_mean.specs.Types.{AsResult, Declared, OfClass, OneValue, ValueType, meant, result_type, shape_of, value_type}
+use Rattle.mpl_mean.specs.Typing.{type_of, type_of_call, type_of_whole}
+use Rattle.mpl_mean.specs.Values.{Value}
+use Rattle.mpl_mean.proofs.SizedAnswers.{IsMember, all_keep, answer_keeps, known_fit, made_keeps, reply_fits}
+use Rattle.mpl_mean.proofs.SizedArguments.{ArgHas, ValueHas}
 use Rattle.mpl_mean.proofs.SizedExpressionForms.{expression_means}
 use Rattle.mpl_mean.proofs.SizedExpressions.{value_keeps}
 use Rattle.mpl_mean.proofs.SizedForms.{Means, number, truth, own, input, whole, element, plain, parenthesized, unary, arithmetic, compares, equates, or, and}
-use Rattle.mpl_mean.proofs.SizedPlaces.{SpotRight, spot_keeps, which, words_keeps}
-use Rattle.mpl_mean.proofs.SizedRules.{AllRight, Right, WellDeclared, WellResult, every_left, every_right}
-use Rattle.mpl_mean.proofs.SizedSettings.{Callee, Callees, FoundAs, Matches, MayCall, PlaceFits, RegularFits, Setting, Sound, VariableOf, here, inside, look_keeps}
-use Rattle.mpl_mean.proofs.SizedSteps.{Frame, Keeps, bare, from_premise, give_keeps, if_keeps, so_keeps, spend_keeps, stop_keeps, then_keeps, variable_words}
-use Rattle.mpl_mean.proofs.SizedTypes.{HasSize, WellProgram, size, type_words}
+use Rattle.mpl_mean.proofs.SizedPlaces.{which}
+use Rattle.mpl_mean.proofs.SizedRules.{AllRight, WellResult}
+use Rattle.mpl_mean.proofs.SizedSettings.{FoundAs, Matches, MayCall, PlaceFits, RegularFits, Setting, Sound, VariableOf, here, inside, look_keeps}
+use Rattle.mpl_mean.proofs.SizedSteps.{Frame, Keeps, bare, from_premise, give_keeps, if_keeps, spend_keeps, stop_keeps, then_keeps, variable_words}
+use Rattle.mpl_mean.proofs.SizedTypes.{HasSize, WellProgram, type_words}
 use Rattle.mpl_mean.proofs.SizedTyping.{whole_size}
 
 -- ---- whole variables

@@ -1,12 +1,11 @@
 -- What is found by the names of types and members, where the names of declarations differ.
-use Rattle.std.proofs.Common.{◌≡◌, ℕ, zero, suc, ◌+◌, ◌≤◌, ◌<◌, Bool, true, false, ◌||◌, List, [], ◌∷◌, ◌++◌, length, Option, Some, None, if◌then◌else◌, refl, sym, ap, subst, ◌∙◌, arith}
+use Rattle.std.proofs.Common.{◌≡◌, ℕ, ◌+◌, ◌≤◌, ◌<◌, Bool, true, false, ◌||◌, List, [], ◌∷◌, ◌++◌, length, Option, Some, None, if◌then◌else◌, refl, sym, ap, subst, ◌∙◌, arith}
 use Rattle.std.proofs.lemmas.Bool.Decides.{nat_tests}
 use Rattle.std.proofs.lemmas.List.Folds.{list_any-append}
 use Rattle.std.proofs.lemmas.Slice.Eq.{bytes_eq-Decides}
 use Rattle.std.specs.List.{list_any}
 use Rattle.std.specs.Prelude.{nat_eq}
 use Rattle.std.specs.Str.{bytes_eq}
-use Rattle.mpl_ast.specs.declared.class.Field.{Field}
 use Rattle.mpl_ast.specs.declared.class.Formals.{Formals}
 use Rattle.mpl_ast.specs.declared.class.Item.{Item}
 use Rattle.mpl_ast.specs.declared.class.Item.TheVariants as item
@@ -18,11 +17,11 @@ use Rattle.mpl_ast.specs.declared.program.Declaration.TheVariants as declaration
 use Rattle.mpl_ast.specs.declared.statement.Block.{Block}
 use Rattle.mpl_mean.specs.BodyMeaning.{member_of_classes, member_or}
 use Rattle.mpl_mean.specs.Layout.{Class, Member, class_named, classes_from, formals_of, is_regular, member_named, member_numbered, members_from, state_of, struct_named}
-use Rattle.mpl_mean.specs.ProgramNodes.{declared_name, surrounding}
+use Rattle.mpl_mean.specs.ProgramNodes.{declared_name}
 use Rattle.mpl_mean.specs.Scopes.{Surrounding}
 use Rattle.mpl_mean.specs.Sizes.{Every}
-use Rattle.mpl_mean.specs.Types.{AClass, AStruct, Meant, meant_by}
-use Rattle.mpl_mean.proofs.SizedRules.{WellClass, WellDeclaration, WellItem, WellMember}
+use Rattle.mpl_mean.specs.Types.{AClass, AStruct, meant_by}
+use Rattle.mpl_mean.proofs.SizedRules.{WellClass, WellDeclaration}
 
 pub bytes_same : (a b : List ℕ) → bytes_eq a b ≡ true → a ≡ b
 bytes_same a b e = (bytes_eq-Decides a b).0 e

@@ -2,7 +2,7 @@
 use Rattle.std.proofs.Common.{◌≡◌, List, [], ◌∷◌, map, true, false, sym, subst}
 use Rattle.mpl_ast.specs.declared.expression.Conjunction.{Conjunction, fold-Conjunction, fold-roll-Conjunction, map-Conjunction, roll-Conjunction}
 use Rattle.mpl_ast.specs.declared.expression.Equality.{Equality, fold-Equality, fold-roll-Equality, map-Equality, roll-Equality}
-use Rattle.mpl_ast.specs.declared.expression.Expression.{Expression, fold-Expression, fold-roll-Expression, map-Expression, roll-Expression, ind-Expression}
+use Rattle.mpl_ast.specs.declared.expression.Expression.{Expression, fold-roll-Expression, map-Expression, roll-Expression, ind-Expression}
 use Rattle.mpl_ast.specs.declared.expression.Place.{Place, fold-Place, fold-roll-Place, map-Place, roll-Place}
 use Rattle.mpl_ast.specs.declared.expression.Primary.{Primary, fold-Primary, fold-roll-Primary, map-Primary, roll-Primary}
 use Rattle.mpl_ast.specs.declared.expression.Relation.{Relation, fold-Relation, fold-roll-Relation, map-Relation, roll-Relation}

@@ -1,39 +1,36 @@
 -- The value of an expression has the words of its type.
-use Rattle.std.proofs.Common.{◌≡◌, ℕ, ◌+◌, ◌≤◌, Bool, true, false, ◌&&◌, List, [], ◌∷◌, ◌++◌, length, map, Option, Some, None, if◌then◌else◌, ℤ, refl, sym, ap, subst, ◌∙◌}
+use Rattle.std.proofs.Common.{◌≡◌, ℕ, true, List, length, map, Option, Some, None, if◌then◌else◌, ℤ, refl, sym, ap, subst, ◌∙◌}
 use Rattle.std.specs.List.{AllZip}
 use Rattle.std.specs.Prelude.{is_some}
-use Rattle.mpl_ast.specs.declared.expression.Expression.{Expression}
 use Rattle.mpl_ast.specs.declared.expression.Target.{Target}
 use Rattle.mpl_ast.specs.declared.expression.UnaryOperator.{UnaryOperator}
 use Rattle.mpl_ast.specs.declared.expression.UnaryOperator.TheVariants as operator
 use Rattle.mpl_ast.specs.declared.place.Name.{Name}
-use Rattle.mpl_ast.specs.declared.program.Declaration.{Declaration}
 use Rattle.mpl_mean.specs.CallRules.{function_takes}
 use Rattle.mpl_mean.specs.CallMeaning.{MayName}
-use Rattle.mpl_mean.specs.ExpressionMeaning.{Evaluates, arithmetic_of, call_plain, called, element_of, test_of, unary_operation, value_of}
-use Rattle.mpl_mean.specs.ExpressionRules.{can_be_indexed, is_array, is_one_value}
+use Rattle.mpl_mean.specs.ExpressionMeaning.{Evaluates, called, unary_operation}
+use Rattle.mpl_mean.specs.ExpressionRules.{can_be_indexed, is_one_value}
 use Rattle.mpl_mean.specs.Layout.{Function, dimension_of, function_named, words_of}
 use Rattle.mpl_mean.specs.Nodes.{nodes_of_each, phrase_nodes, target_nodes}
 use Rattle.mpl_mean.specs.Phrases.{Phrase, Phrases, phrase_of}
 use Rattle.mpl_mean.specs.Phrases as phrase
-use Rattle.mpl_mean.specs.PlaceMeaning.{Spot, read, spot_of, words_of_spot}
-use Rattle.mpl_mean.specs.Scopes.{Here, is_main, plain_function}
-use Rattle.mpl_mean.specs.Store.{Doing, Variable, ◌>>=◌, give}
-use Rattle.mpl_mean.specs.Types.{AsResult, Declared, OfInt, Shape, AnArray, ARegular, OneValue, ValueType, agree, is_int, meant, shape_of, value_type}
-use Rattle.mpl_mean.specs.Typing.{arguments_fit, formal_types, target_shape, type_of, type_of_element, type_of_plain_call, type_of_whole, types_of}
+use Rattle.mpl_mean.specs.PlaceMeaning.{Spot, read, words_of_spot}
+use Rattle.mpl_mean.specs.Scopes.{is_main, plain_function}
+use Rattle.mpl_mean.specs.Store.{Doing, Variable}
+use Rattle.mpl_mean.specs.Types.{AsResult, Declared, meant, shape_of, value_type}
+use Rattle.mpl_mean.specs.Typing.{target_shape, type_of, type_of_element, type_of_plain_call, type_of_whole, types_of}
 use Rattle.mpl_mean.specs.Values.{Value, is_true}
 use Rattle.mpl_mean.proofs.SizedAnswers.{WordsFit, all_keep, zip_from}
 use Rattle.mpl_mean.proofs.SizedArguments.{ValueHas, function_of, some_function, words_fit}
-use Rattle.mpl_mean.proofs.SizedExpressionForms.{expression_means}
 use Rattle.mpl_mean.proofs.SizedForms.{Means, MeansEach, number, truth, own, input, whole, element, plain, parenthesized, unary, arithmetic, compares, equates, or, and}
 use Rattle.mpl_mean.proofs.SizedForms as each
 use Rattle.mpl_mean.proofs.SizedPlaces.{SpotRight, index_keeps, spot_keeps, which, words_keeps}
-use Rattle.mpl_mean.proofs.SizedRules.{AllRight, IsElement, Right, WellDeclared, every_left, every_right}
+use Rattle.mpl_mean.proofs.SizedRules.{AllRight, Right, WellDeclared, every_left, every_right}
 use Rattle.mpl_mean.proofs.SizedSettings.{Matches, PlainFits, Setting, Sound, here, inside}
 use Rattle.mpl_mean.proofs.SizedSteps.{Frame, Keeps, computes, from_premise, give_keeps, if_keeps, so_keeps, stop_keeps, then_keeps}
 use Rattle.mpl_mean.proofs.SizedStores.{inputs_keeps}
 use Rattle.mpl_mean.proofs.SizedTyping.{chosen_function, element_size, type_there, whole_size}
-use Rattle.mpl_mean.proofs.SizedTypes.{HasSize, WellProgram, binary_size, element_words, own_size, shape_words, size, type_words, unary_size}
+use Rattle.mpl_mean.proofs.SizedTypes.{HasSize, WellProgram, binary_size, own_size, size, type_words, unary_size}
 
 -- ---- places
 

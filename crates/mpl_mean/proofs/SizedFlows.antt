@@ -1,8 +1,7 @@
 -- Flows and calls: each argument has the words of its formal, and what is passed on those of its type.
-use Rattle.std.proofs.Common.{◌≡◌, ℕ, Bool, true, false, ◌&&◌, List, [], ◌∷◌, ◌++◌, map, Option, Some, None, ℤ, refl, sym, ap, subst, ◌∙◌}
+use Rattle.std.proofs.Common.{◌≡◌, ℕ, Bool, true, false, ◌&&◌, List, ◌++◌, Option, Some, None, refl, sym, ap, subst, ◌∙◌}
 use Rattle.std.specs.List.{AllZip}
 use Rattle.std.specs.Option.{option_and_then}
-use Rattle.mpl_ast.specs.declared.expression.Expression.{Expression}
 use Rattle.mpl_ast.specs.declared.expression.Target.{Target}
 use Rattle.mpl_ast.specs.declared.flow.Call.{Call}
 use Rattle.mpl_ast.specs.declared.flow.Flow.{Flow}
@@ -13,15 +12,15 @@ use Rattle.mpl_mean.specs.CallMeaning.{MayName, Passes, at_context, call_of_memb
 use Rattle.mpl_mean.specs.CallRules.{call_may_stand, can_be_called, member_takes}
 use Rattle.mpl_mean.specs.ExpressionMeaning.{Evaluates}
 use Rattle.mpl_mean.specs.Layout.{Class, Member, class_named, class_of_type, classes_of, member_named}
-use Rattle.mpl_mean.specs.Nodes.{call_nodes, nodes_of_each, phrase_nodes, receiver_nodes, statement_call_nodes, target_nodes}
+use Rattle.mpl_mean.specs.Nodes.{call_nodes, nodes_of_each, phrase_nodes, statement_call_nodes, target_nodes}
 use Rattle.mpl_mean.specs.Phrases.{Phrase, Phrases, phrase_of, phrase_of_call, phrase_of_flow}
 use Rattle.mpl_mean.specs.Phrases as phrase
 use Rattle.mpl_mean.specs.PlaceMeaning.{Spot}
 use Rattle.mpl_mean.specs.Scopes.{Here, is_in_member, is_persistent}
 use Rattle.mpl_mean.specs.Sizes.{ArgFits, ArgumentsFit, words_of_result}
 use Rattle.mpl_mean.specs.Store.{Doing, Variable}
-use Rattle.mpl_mean.specs.Types.{Declared, Shape, ValueType, shape_of}
-use Rattle.mpl_mean.specs.Typing.{items_called, member_called, member_of, target_shape, type_of, types_of}
+use Rattle.mpl_mean.specs.Types.{Declared, ValueType, shape_of}
+use Rattle.mpl_mean.specs.Typing.{member_called, member_of, target_shape, type_of, types_of}
 use Rattle.mpl_mean.specs.Values.{first_word}
 use Rattle.mpl_mean.proofs.SizedAnswers.{IsMember, zip_from}
 use Rattle.mpl_mean.proofs.SizedArguments.{ArgHas, args_fit, two_true}
@@ -31,7 +30,7 @@ use Rattle.mpl_mean.proofs.SizedExpressionForms.{expression_means}
 use Rattle.mpl_mean.proofs.SizedForms.{Means, number, truth, own, input, whole, element, plain, parenthesized, unary, arithmetic, compares, equates, or, and, PassesOn, PassesEach, on_own, on_target, expression}
 use Rattle.mpl_mean.proofs.SizedForms as each
 use Rattle.mpl_mean.proofs.SizedPlaces.{SpotRight, spot_keeps, words_keeps}
-use Rattle.mpl_mean.proofs.SizedRules.{AllRight, Right, WellDeclared, WellResult, every_left, every_right}
+use Rattle.mpl_mean.proofs.SizedRules.{AllRight, Right, WellResult, every_left, every_right}
 use Rattle.mpl_mean.proofs.SizedSettings.{Callee, Callees, Matches, MayCall, Setting, Sound, here, inside}
 use Rattle.mpl_mean.proofs.SizedStatementForms.{call_passes, flow_passes}
 use Rattle.mpl_mean.proofs.SizedSteps.{Frame, Keeps, from_premise, so_keeps, stop_keeps, then_keeps}

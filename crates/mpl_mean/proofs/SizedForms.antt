@@ -1,12 +1,11 @@
 -- What expressions, flows and statements do, beside what the type rules see of them, without the levels of the grammar.
-use Rattle.std.proofs.Common.{ℕ, Bool, true, false, List, [], ◌∷◌, map, Option, Some, None, if◌then◌else◌, ℤ, Result}
+use Rattle.std.proofs.Common.{ℕ, Bool, true, false, List, [], ◌∷◌, map, Option, None, if◌then◌else◌, ℤ, Result}
 use Rattle.mpl_ast.specs.declared.expression.Expression.{Expression}
 use Rattle.mpl_ast.specs.declared.expression.Target.{Target}
 use Rattle.mpl_ast.specs.declared.expression.UnaryOperator.{UnaryOperator}
 use Rattle.mpl_ast.specs.declared.flow.Assignment.{Assignment}
 use Rattle.mpl_ast.specs.declared.flow.Call.{Call}
 use Rattle.mpl_ast.specs.declared.flow.Flow.{Flow}
-use Rattle.mpl_ast.specs.declared.place.At.{At}
 use Rattle.mpl_ast.specs.declared.place.Name.{Name}
 use Rattle.mpl_ast.specs.declared.statement.ForStart.{ForStart}
 use Rattle.mpl_ast.specs.declared.statement.Local.{Local}
@@ -21,7 +20,7 @@ use Rattle.mpl_mean.specs.Phrases as phrase
 use Rattle.mpl_mean.specs.PlaceMeaning.{read}
 use Rattle.mpl_mean.specs.StatementMeaning.{Does, block_effect, declares_all, at_spot, create_at, gives_result, line_of, loop, nothing, returns, steps, values_of}
 use Rattle.mpl_mean.specs.StatementMeaning as statement
-use Rattle.mpl_mean.specs.Store.{Doing, ◌>>=◌, ◌>>◌, give, in_scope, printed}
+use Rattle.mpl_mean.specs.Store.{◌>>=◌, ◌>>◌, give, in_scope, printed}
 use Rattle.mpl_mean.specs.Values.{int_value, bool_value, is_true}
 use Rattle.std.specs.Option.{option_map}
 

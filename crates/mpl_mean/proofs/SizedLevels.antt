@@ -1,35 +1,32 @@
 -- Members of regular classes in place, and what is called so many levels deep.
-use Rattle.std.proofs.Common.{◌≡◌, ℕ, zero, suc, Bool, true, false, not, List, [], ◌∷◌, ◌++◌, length, map, Option, Some, None, ℤ, refl, sym, ap, subst, ◌∙◌}
+use Rattle.std.proofs.Common.{◌≡◌, ℕ, zero, suc, Bool, true, false, not, List, [], map, Option, Some, None, ℤ, refl, sym, ap, subst}
 use Rattle.std.specs.FinMap.{FinMap}
 use Rattle.std.specs.Ordering.{nat_cmp}
-use Rattle.mpl_ast.specs.declared.class.Formal.{Formal}
 use Rattle.mpl_ast.specs.declared.class.ResultType.{ResultType}
 use Rattle.mpl_ast.specs.declared.program.Declaration.{Declaration}
 use Rattle.mpl_value.specs.declared.body.Arg.{Arg}
 use Rattle.mpl_value.specs.declared.body.BodyEnd.{BodyEnd}
 use Rattle.mpl_value.specs.declared.body.BodyEnd.TheVariants as end
 use Rattle.mpl_value.specs.declared.body.BodyResult.{BodyResult}
-use Rattle.mpl_value.specs.declared.body.BodyResult.TheVariants as result
 use Rattle.mpl_value.specs.declared.body.CallMade.{CallMade}
 use Rattle.mpl_value.specs.declared.known.Known.{Known}
-use Rattle.mpl_mean.specs.BodyMeaning.{arg_of_result, back_with, below_at, context_with, formals_holding, member_end, regular_body, result_at, result_at_end, run, store_of, store_with}
+use Rattle.mpl_mean.specs.BodyMeaning.{arg_of_result, back_with, below_at, context_with, formals_holding, member_end, regular_body, run, store_of, store_with}
 use Rattle.mpl_mean.specs.CallRules.{call_may_stand}
 use Rattle.mpl_mean.specs.Context.{Below, Context}
-use Rattle.mpl_mean.specs.Layout.{Member, part_named}
+use Rattle.mpl_mean.specs.Layout.{Member}
 use Rattle.mpl_mean.specs.MoreReplies.{IsFront}
-use Rattle.mpl_mean.specs.Scopes.{Body, InMember, Surrounding, is_persistent, state_members}
+use Rattle.mpl_mean.specs.Scopes.{InMember, Surrounding, state_members}
 use Rattle.mpl_mean.specs.Sizes.{ArgFits, ResultFits, words_of_result}
-use Rattle.mpl_mean.specs.Store.{Store, Outcome, Goes, Returns, Ends, Doing, Variable, spend, stop}
-use Rattle.mpl_mean.specs.Types.{Declared, InState, OfClass, OneValue, declared_fields, declared_formals, first_named}
-use Rattle.mpl_mean.proofs.ComesBack.{after_regular}
+use Rattle.mpl_mean.specs.Store.{Store, Outcome, Goes, Returns, Ends, Variable, stop}
+use Rattle.mpl_mean.specs.Types.{InState, OfClass, OneValue, declared_fields, declared_formals, first_named}
 use Rattle.mpl_mean.proofs.Follows.{store_after}
 use Rattle.mpl_mean.proofs.SizedAnswers.{WordsFit}
-use Rattle.mpl_mean.proofs.SizedBodies.{RunReady, arg_of_fits, at_fits, end_fits, formals_fit, formals_match, member_is, plain_keeps, run_moves, setting}
+use Rattle.mpl_mean.proofs.SizedBodies.{arg_of_fits, at_fits, end_fits, formals_fit, formals_match, member_is, plain_keeps, run_moves, setting}
 use Rattle.mpl_mean.proofs.SizedParts.{PartFits}
 use Rattle.mpl_mean.proofs.SizedRules.{WellResult}
 use Rattle.mpl_mean.proofs.SizedScopes.{Moved}
 use Rattle.mpl_mean.proofs.SizedSettings.{BelowFits, RegularFits, Setting, Sound, frame}
-use Rattle.mpl_mean.proofs.SizedSteps.{After, Fits, Frame, Keeps, Rest, bare, front_itself, spend_keeps, stop_keeps, then_keeps}
+use Rattle.mpl_mean.proofs.SizedSteps.{After, Fits, Frame, Keeps, bare, front_itself, spend_keeps, stop_keeps, then_keeps}
 use Rattle.mpl_mean.proofs.SizedTypes.{WellProgram}
 
 not_persistent : (b : Bool) → b ≡ true → not b ≡ true → ⊥

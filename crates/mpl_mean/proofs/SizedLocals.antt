@@ -1,34 +1,28 @@
 -- Locals: what is declared in the scope is what is declared in the store.
-use Rattle.std.proofs.Common.{◌≡◌, ℕ, ◌+◌, Bool, true, false, not, ◌&&◌, ◌||◌, List, [], ◌∷◌, ◌++◌, length, map, Option, Some, None, if◌then◌else◌, ℤ, pos, refl, sym, ap, subst, ◌∙◌, true≢false}
+use Rattle.std.proofs.Common.{◌≡◌, ℕ, Bool, true, false, not, ◌||◌, List, [], ◌∷◌, ◌++◌, map, Option, Some, None, if◌then◌else◌, pos, refl, sym, ap, subst, ◌∙◌, true≢false}
 use Rattle.std.proofs.lemmas.List.{length-replicate}
 use Rattle.std.proofs.lemmas.List.Folds.{list_any-append}
-use Rattle.std.specs.List.{list_all, list_any}
+use Rattle.std.specs.List.{list_any}
 use Rattle.std.specs.Prelude.{flat_map, is_some}
 use Rattle.std.specs.Str.{bytes_eq}
-use Rattle.mpl_ast.specs.declared.place.Name.{Name}
 use Rattle.mpl_ast.specs.declared.program.Declaration.{Declaration}
 use Rattle.mpl_ast.specs.declared.statement.Declarator.{Declarator}
 use Rattle.mpl_ast.specs.declared.statement.Declarator.TheVariants.{Plain, Initialized}
 use Rattle.mpl_ast.specs.declared.statement.Dimension.{Dimension}
-use Rattle.mpl_ast.specs.declared.statement.Local.{Local}
 use Rattle.mpl_ast.specs.declared.statement.TypeName.{TypeName}
-use Rattle.mpl_value.specs.declared.body.Arg.{Arg}
-use Rattle.mpl_value.specs.declared.body.Arg.TheVariants.{Know, Unknown}
 use Rattle.mpl_mean.specs.Actions.{NewLocal, new_local}
-use Rattle.mpl_mean.specs.CallMeaning.{passes}
-use Rattle.mpl_mean.specs.ExpressionRules.{initialiser_fits, is_no_regular, is_one_value}
+use Rattle.mpl_mean.specs.ExpressionRules.{is_no_regular, is_one_value}
 use Rattle.mpl_mean.specs.Layout.{dimension_of, part_named, words_of}
 use Rattle.mpl_mean.specs.NameRules.{is_meant}
-use Rattle.mpl_mean.specs.Nodes.{Placed, phrase_nodes, place}
-use Rattle.mpl_mean.specs.Nodes as node
+use Rattle.mpl_mean.specs.Nodes.{Placed, phrase_nodes}
 use Rattle.mpl_mean.specs.Phrases.{phrase_of_flow}
 use Rattle.mpl_mean.specs.Scopes.{locals_beside, state_members, variable_of, with_last}
 use Rattle.mpl_mean.specs.SizeRules.{is_element, is_size}
 use Rattle.mpl_mean.specs.Layout as layout
-use Rattle.mpl_mean.specs.StatementMeaning.{Effect, declares, declares_all, zeros}
+use Rattle.mpl_mean.specs.StatementMeaning.{declares}
 use Rattle.mpl_mean.specs.StatementNodes.{declared_local, dimension_nodes, local_walk, locals_walk}
-use Rattle.mpl_mean.specs.Store.{Variable, declare, in_turn, variable_named}
-use Rattle.mpl_mean.specs.Types.{AClass, ABool, AnInt, AStruct, AsLocal, Declared, Meant, Nothing, AnArray, ARegular, OneValue, Shape, ValueType, agree, first_named, meant, names, shape_of, shape_of_meant}
+use Rattle.mpl_mean.specs.Store.{Variable, in_turn, variable_named}
+use Rattle.mpl_mean.specs.Types.{AClass, ABool, AnInt, AStruct, AsLocal, Declared, Meant, Nothing, AnArray, ARegular, OneValue, Shape, agree, first_named, meant, names, shape_of, shape_of_meant}
 use Rattle.mpl_mean.specs.Typing.{type_of, type_of_whole}
 use Rattle.mpl_mean.proofs.SizedArguments.{ArgHas, two_true}
 use Rattle.mpl_mean.proofs.SizedAssignments.{agree_arg}
@@ -37,8 +31,8 @@ use Rattle.mpl_mean.proofs.SizedFlows.{flow_keeps}
 use Rattle.mpl_mean.proofs.SizedRules.{AllRight, IsElement, Right, WellDeclared, every_left, every_right}
 use Rattle.mpl_mean.proofs.SizedScopes.{Moves, declare_moves, keeps_then_moves, so_moves, still_moves, then_moves}
 use Rattle.mpl_mean.proofs.SizedSettings.{Matches, PlaceFits, Setting, Sound, here, inside}
-use Rattle.mpl_mean.proofs.SizedSteps.{Frame, Fits, Keeps, Triple, bare, concludes, from_premise, give_keeps, then_triple}
-use Rattle.mpl_mean.proofs.SizedTypes.{HasSize, WellProgram, array_of_shape}
+use Rattle.mpl_mean.proofs.SizedSteps.{Frame, from_premise, give_keeps}
+use Rattle.mpl_mean.proofs.SizedTypes.{array_of_shape}
 use Rattle.mpl_mean.proofs.SizedTyping.{whole_size}
 
 -- ---- a new name in a scope

@@ -1,13 +1,13 @@
 -- The parts of a struct or of a state, and the fields from which they come.
-use Rattle.std.proofs.Common.{◌≡◌, ℕ, ◌+◌, ◌≤◌, Bool, true, false, List, [], ◌∷◌, ◌++◌, length, map, Option, Some, None, if◌then◌else◌, refl, sym, ap, subst, ◌∙◌, arith}
+use Rattle.std.proofs.Common.{◌≡◌, ℕ, ◌+◌, ◌≤◌, Bool, true, false, List, [], ◌∷◌, ◌++◌, map, Option, Some, None, if◌then◌else◌, refl, sym, ap, ◌∙◌, arith}
 use Rattle.std.proofs.lemmas.List.Sums.{sum_by-append, sum_by-cons}
-use Rattle.std.specs.Prelude.{flat_map, sum_by}
+use Rattle.std.specs.Prelude.{sum_by}
 use Rattle.std.specs.Str.{bytes_eq}
 use Rattle.mpl_ast.specs.declared.class.Field.{Field}
 use Rattle.mpl_ast.specs.declared.class.FieldName.{FieldName}
 use Rattle.mpl_ast.specs.declared.program.Declaration.{Declaration}
 use Rattle.mpl_ast.specs.declared.statement.TypeName.{TypeName}
-use Rattle.mpl_mean.specs.Layout.{Part, dimension_of, part_named, parts_from, parts_of, parts_of_names, words_of, words_of_fields, words_of_parts, words_of_word}
+use Rattle.mpl_mean.specs.Layout.{Part, dimension_of, part_named, parts_from, parts_of_names, words_of, words_of_fields, words_of_parts, words_of_word}
 use Rattle.mpl_mean.specs.Sizes.{Every}
 use Rattle.mpl_mean.specs.Types.{Declared, InStruct, Role, declared_by, declared_fields, first_named}
 use Rattle.mpl_mean.proofs.SizedRules.{WellDeclared, every_left, every_right}

@@ -1,5 +1,5 @@
 -- Where the words of a place lie, and how many there are.
-use Rattle.std.proofs.Common.{◌≡◌, ℕ, ◌+◌, ◌≤◌, Bool, true, false, List, [], ◌∷◌, length, Option, Some, None, if◌then◌else◌, nat_lt, ℤ, pos, negsuc, refl, sym, ap, subst, ◌∙◌, arith}
+use Rattle.std.proofs.Common.{◌≡◌, ℕ, ◌+◌, ◌≤◌, Bool, true, false, List, [], length, Option, Some, None, if◌then◌else◌, nat_lt, ℤ, pos, negsuc, refl, sym, ap, subst, ◌∙◌, arith}
 use Rattle.std.proofs.lemmas.Bool.Decides.{nat_tests}
 use Rattle.std.specs.Prelude.{is_some}
 use Rattle.mpl_ast.specs.declared.class.Field.{Field}
@@ -10,23 +10,23 @@ use Rattle.mpl_ast.specs.declared.statement.TypeName.{TypeName}
 use Rattle.mpl_ast.specs.declared.statement.TypeName.TheVariants as type
 use Rattle.mpl_value.specs.declared.body.Arg.TheVariants.{Know}
 use Rattle.mpl_mean.specs.ExpressionRules.{is_struct}
-use Rattle.mpl_mean.specs.Layout.{Part, class_named, classes_of, dimension_of, part_named, parts_of, parts_of_type, struct_named, words_of, words_of_fields, words_of_named, words_of_parts}
+use Rattle.mpl_mean.specs.Layout.{Part, class_named, classes_of, dimension_of, part_named, parts_of, parts_of_type, words_of, words_of_fields, words_of_named, words_of_parts}
 use Rattle.mpl_mean.specs.NameRules.{has_field, meant_has_field}
 use Rattle.mpl_mean.specs.Nodes.{target_nodes}
-use Rattle.mpl_mean.specs.PlaceMeaning.{Spot, base_of, field_of_spot, index_below, index_of, is_bool, put, read, spot_of, spot_of_name, spot_of_part, tested_index, words_of_spot}
-use Rattle.mpl_mean.specs.Scopes.{Here, variable_of}
-use Rattle.mpl_mean.specs.Sizes.{ArgFits, Every}
-use Rattle.mpl_mean.specs.Store.{Doing, Variable, hold, variable_named, with_words, words_at}
+use Rattle.mpl_mean.specs.PlaceMeaning.{Spot, base_of, field_of_spot, index_below, index_of, put, spot_of, spot_of_name, spot_of_part, tested_index, words_of_spot}
+use Rattle.mpl_mean.specs.Scopes.{variable_of}
+use Rattle.mpl_mean.specs.Sizes.{Every}
+use Rattle.mpl_mean.specs.Store.{Doing, Variable, variable_named, with_words}
 use Rattle.mpl_mean.specs.Types.{AClass, ABool, AnInt, AStruct, Declared, InStruct, Meant, OfBool, OfClass, OfInt, OfStruct, AnArray, ARegular, OneValue, Role, Shape, ValueType, declared_fields, first_named, is_field, meant, meant_by, shape_of, value_type}
 use Rattle.mpl_mean.specs.Types as types
 use Rattle.mpl_mean.specs.Typing.{shape_behind_dot, shape_of_field, target_shape}
 use Rattle.mpl_mean.specs.Values.{Value}
-use Rattle.mpl_mean.proofs.SizedParts.{PartFits, PartOf, parts_fit, struct_words}
+use Rattle.mpl_mean.proofs.SizedParts.{PartFits, parts_fit, struct_words}
 use Rattle.mpl_mean.proofs.SizedRules.{AllRight, WellDeclared}
-use Rattle.mpl_mean.proofs.SizedSettings.{FoundAs, Matches, PlaceFits, Setting, Sound, VariableOf, here, inside, look_keeps}
+use Rattle.mpl_mean.proofs.SizedSettings.{FoundAs, Matches, PlaceFits, Setting, VariableOf, here, inside, look_keeps}
 use Rattle.mpl_mean.proofs.SizedSteps.{Frame, Keeps, VariableFits, bare, force_keeps, from_premise, give_keeps, so_keeps, stop_keeps, then_keeps, variable_words}
 use Rattle.mpl_mean.proofs.SizedStores.{hold_keeps, restates_keeps, state_keeps, with_words_long, words_at_long}
-use Rattle.mpl_mean.proofs.SizedTypes.{HasSize, WellProgram, not_bool, not_int, shape_words, struct_of, value_of_shape}
+use Rattle.mpl_mean.proofs.SizedTypes.{WellProgram, not_bool, not_int, struct_of, value_of_shape}
 
 -- ---- structs
 

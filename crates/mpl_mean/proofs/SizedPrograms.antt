@@ -1,5 +1,5 @@
 -- In a program in which no rule fails the declarations fit.
-use Rattle.std.proofs.Common.{◌≡◌, ℕ, ◌+◌, Bool, true, false, not, ◌&&◌, List, [], ◌∷◌, ◌++◌, map, Option, Some, None, if◌then◌else◌, refl, sym, ap, subst, ◌∙◌}
+use Rattle.std.proofs.Common.{◌≡◌, ℕ, ◌+◌, Bool, true, false, not, ◌&&◌, List, [], ◌∷◌, ◌++◌, map, Option, Some, None, refl}
 use Rattle.std.specs.List.{list_any}
 use Rattle.std.specs.Prelude.{flat_map, is_some}
 use Rattle.std.specs.Str.{bytes_eq}
@@ -14,24 +14,22 @@ use Rattle.mpl_ast.specs.declared.class.ResultType.TheVariants.{Void, Typed}
 use Rattle.mpl_ast.specs.declared.program.Declaration.{Declaration}
 use Rattle.mpl_ast.specs.declared.program.Declaration.TheVariants as declaration
 use Rattle.mpl_ast.specs.declared.program.Program.{Program}
-use Rattle.mpl_ast.specs.declared.statement.Block.{Block}
 use Rattle.mpl_ast.specs.declared.statement.Dimension.{Dimension}
 use Rattle.mpl_ast.specs.declared.statement.TypeName.{TypeName}
-use Rattle.mpl_mean.specs.Actions.{actions_of}
 use Rattle.mpl_mean.specs.Layout.{formals_of, natural, state_of}
 use Rattle.mpl_mean.specs.NameRules.{are_no_formals, is_int_type, is_int_without_formals, is_meant, main_is_right}
 use Rattle.mpl_mean.specs.Nodes.{Placed, place}
 use Rattle.mpl_mean.specs.Nodes as node
-use Rattle.mpl_mean.specs.ProgramNodes.{Before, Inner, Inside, declaration_at, declaration_nodes, declared_name, entry_nodes, field_name_nodes, field_names, field_nodes, fields_nodes, formal_nodes, function_body, guards_of_entry, heres, inner_nodes, inners, inside_class, inside_declaration, inside_item, insides, item_nodes, nodes, nodes_inside, outline_nodes, parts_nodes, result_nodes, routine, routine_nodes, surrounding}
+use Rattle.mpl_mean.specs.ProgramNodes.{Before, Inside, declaration_at, declaration_nodes, declared_name, entry_nodes, field_name_nodes, field_names, field_nodes, fields_nodes, formal_nodes, guards_of_entry, heres, inner_nodes, inners, inside_declaration, inside_item, insides, item_nodes, nodes_inside, outline_nodes, parts_nodes, result_nodes, surrounding}
 use Rattle.mpl_mean.specs.Rules.{is_typed}
-use Rattle.mpl_mean.specs.Scopes.{Here, Body, InMember, Surrounding, at_top, in_body, in_class, is_main}
-use Rattle.mpl_mean.specs.SizeRules.{dimension_fits, is_element, is_size, meant_may_stand}
+use Rattle.mpl_mean.specs.Scopes.{Here, Surrounding, at_top, in_class, is_main}
+use Rattle.mpl_mean.specs.SizeRules.{is_element, is_size, meant_may_stand}
 use Rattle.mpl_mean.specs.Sizes.{Every}
-use Rattle.mpl_mean.specs.StatementNodes.{actions_walk, dimension_nodes, type_nodes}
-use Rattle.mpl_mean.specs.Types.{AClass, ABool, AnInt, AStruct, AsFormal, AsResult, Declared, InState, InStruct, Meant, Nothing, Role, declared_by, declared_fields, declared_formals, is_field, is_local, meant, shape_of, shape_of_meant, value_type}
+use Rattle.mpl_mean.specs.StatementNodes.{dimension_nodes}
+use Rattle.mpl_mean.specs.Types.{AClass, ABool, AnInt, AStruct, AsFormal, AsResult, InState, InStruct, Meant, Nothing, Role, declared_by, declared_fields, declared_formals, meant, shape_of_meant, value_type}
 use Rattle.mpl_mean.proofs.SizedArguments.{two_true}
 use Rattle.mpl_mean.proofs.SizedClasses.{NamesDiffer}
-use Rattle.mpl_mean.proofs.SizedRules.{AllRight, HasType, IsElement, Right, WellClass, WellDeclaration, WellDeclared, WellFunction, WellItem, WellMain, WellMember, WellResult, WellRoutine, every_left, every_right, typed_right, within}
+use Rattle.mpl_mean.proofs.SizedRules.{AllRight, IsElement, Right, WellDeclaration, WellDeclared, WellItem, WellMain, WellResult, every_left, every_right, typed_right}
 use Rattle.mpl_mean.proofs.SizedStores.{every_append}
 use Rattle.mpl_mean.proofs.SizedTypes.{WellProgram}
 

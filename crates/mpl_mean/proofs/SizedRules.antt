@@ -1,6 +1,6 @@
 -- What holds at each node of a program in which no rule fails.
-use Rattle.std.proofs.Common.{◌≡◌, ℕ, Bool, true, false, not, ◌&&◌, List, [], ◌∷◌, ◌++◌, Option, Some, None, if◌then◌else◌, refl, sym, subst}
-use Rattle.std.specs.Prelude.{filter, flat_map, map, is_some}
+use Rattle.std.proofs.Common.{◌≡◌, ℕ, Bool, true, false, not, List, [], ◌∷◌, ◌++◌, Option, Some, None, if◌then◌else◌, refl}
+use Rattle.std.specs.Prelude.{map, is_some}
 use Rattle.mpl_ast.specs.declared.class.Formal.{Formal}
 use Rattle.mpl_ast.specs.declared.class.Item.{Item}
 use Rattle.mpl_ast.specs.declared.class.Item.TheVariants as item
@@ -18,9 +18,9 @@ use Rattle.mpl_mean.specs.ClassRules.{state_is_persistent}
 use Rattle.mpl_mean.specs.ExpressionRules.{operands_fit, index_fits, place_may_stand, field_is_of_struct, right_side_fits}
 use Rattle.mpl_mean.specs.Layout.{formals_of, state_of}
 use Rattle.mpl_mean.specs.NameRules.{name_is_known, name_is_new, main_is_there}
-use Rattle.mpl_mean.specs.Nodes.{Node, Placed}
+use Rattle.mpl_mean.specs.Nodes.{Placed}
 use Rattle.mpl_mean.specs.ProgramNodes.{function_body, nodes, surrounding}
-use Rattle.mpl_mean.specs.Rules.{Failure, Rule, failing_at, failures, failures_among, failures_at, is_empty, is_typed, rules}
+use Rattle.mpl_mean.specs.Rules.{Failure, Rule, failing_at, failures_among, failures_at, is_empty, is_typed, rules}
 use Rattle.mpl_mean.specs.Scopes.{Here, Body, InMember, Surrounding, is_main}
 use Rattle.mpl_mean.specs.SizeRules.{dimension_fits, is_element, type_may_stand}
 use Rattle.mpl_mean.specs.Sizes.{Every}

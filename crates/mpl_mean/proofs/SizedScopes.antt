@@ -1,14 +1,13 @@
 -- What is declared in a scope goes with it.
-use Rattle.std.proofs.Common.{◌≡◌, ℕ, zero, suc, ◌+◌, ◌-◌, List, [], ◌∷◌, ◌++◌, length, map, drop, Option, Some, None, refl, sym, ap, subst, ◌∙◌, arith}
+use Rattle.std.proofs.Common.{◌≡◌, ℕ, zero, suc, ◌-◌, List, [], ◌∷◌, ◌++◌, length, map, drop, refl, sym, ap, subst, ◌∙◌, arith}
 use Rattle.std.proofs.lemmas.List.{append_assoc, length-append}
 use Rattle.std.proofs.Math.Seq.{drop-append_seam}
-use Rattle.mpl_value.specs.declared.body.Arg.{Arg}
 use Rattle.mpl_mean.specs.MoreReplies.{IsFront}
 use Rattle.mpl_mean.specs.Sizes.{Every}
 use Rattle.mpl_mean.specs.StatementMeaning.{Effect}
 use Rattle.mpl_mean.specs.Store.{Store, Outcome, Goes, Returns, Ends, Doing, Variable, ◌>>=◌, ◌>>◌, declare, in_scope, oldest, only_oldest}
 use Rattle.mpl_mean.proofs.Follows.{store_after}
-use Rattle.mpl_mean.proofs.SizedSteps.{Frame, Triple, Keeps, Fits, Rest, VariableFits, After, Within, bare, concludes, front_itself, then_triple}
+use Rattle.mpl_mean.proofs.SizedSteps.{Frame, Triple, Keeps, Fits, VariableFits, After, Within, bare, concludes, front_itself, then_triple}
 
 -- From a premise a step adds variables to those in scope, of which something holds then.
 abbrev pub Moved : Frame → List Variable → Type 0 → (List Variable → Type 0) → Store → Type 0

@@ -1,11 +1,9 @@
 -- A body in its frame: what surrounds its statements, what it runs in, and how the two belong together.
-use Rattle.std.proofs.Common.{◌≡◌, ℕ, ◌+◌, ◌≤◌, Bool, true, false, ◌||◌, ◌&&◌, List, [], ◌∷◌, ◌++◌, length, map, Option, Some, None, if◌then◌else◌, ℤ, refl, sym, ap, subst, ◌∙◌}
+use Rattle.std.proofs.Common.{◌≡◌, ℕ, Bool, true, false, List, [], ◌∷◌, length, map, Option, Some, None, if◌then◌else◌, ℤ, refl, subst}
 use Rattle.std.specs.FinMap.{FinMap}
 use Rattle.std.specs.Ordering.{nat_cmp}
 use Rattle.std.specs.Str.{bytes_eq}
-use Rattle.mpl_ast.specs.declared.class.Formal.{Formal}
 use Rattle.mpl_ast.specs.declared.class.ResultType.{ResultType}
-use Rattle.mpl_ast.specs.declared.class.ResultType.TheVariants.{Void, Typed}
 use Rattle.mpl_ast.specs.declared.program.Declaration.{Declaration}
 use Rattle.mpl_ast.specs.declared.statement.TypeName.{TypeName}
 use Rattle.mpl_value.specs.declared.body.Arg.{Arg}
@@ -23,7 +21,7 @@ use Rattle.mpl_mean.proofs.SizedAnswers.{IsMember, WordsFit}
 use Rattle.mpl_mean.proofs.SizedClasses.{bytes_same}
 use Rattle.mpl_mean.proofs.SizedParts.{PartFits}
 use Rattle.mpl_mean.proofs.SizedRules.{HasType, WellDeclared, WellMember, WellResult, WellRoutine, within}
-use Rattle.mpl_mean.proofs.SizedSteps.{Frame, Keeps, VariableFits, Fits, bare, so_after}
+use Rattle.mpl_mean.proofs.SizedSteps.{Frame, Keeps, VariableFits, bare, so_after}
 use Rattle.mpl_mean.proofs.SizedTypes.{WellProgram}
 
 -- what surrounds the statements of a body, and what it runs in

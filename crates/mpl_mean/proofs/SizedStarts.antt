@@ -1,5 +1,5 @@
 -- The body that a start names, and what is known of it.
-use Rattle.std.proofs.Common.{◌≡◌, ℕ, ◌+◌, ◌≤◌, Bool, true, false, ◌&&◌, ◌||◌, List, [], ◌∷◌, ◌++◌, length, take, drop, Option, Some, None, if◌then◌else◌, ℤ, refl, sym, ap, subst, ◌∙◌, true≢false, arith}
+use Rattle.std.proofs.Common.{◌≡◌, ℕ, ◌+◌, ◌≤◌, Bool, true, false, ◌||◌, List, [], ◌∷◌, ◌++◌, length, drop, Option, Some, None, if◌then◌else◌, ℤ, refl, sym, ap, subst, ◌∙◌, true≢false, arith}
 use Rattle.std.proofs.lemmas.List.{length-drop, length-take-le}
 use Rattle.std.proofs.lemmas.List.Folds.{list_any-append}
 use Rattle.std.proofs.lemmas.List.Sums.{sum_by-cons}
@@ -13,7 +13,7 @@ use Rattle.mpl_ast.specs.declared.program.Declaration.{Declaration}
 use Rattle.mpl_ast.specs.declared.program.Declaration.TheVariants as declaration
 use Rattle.mpl_mean.specs.BodyMeaning.{member_of_classes, member_or, split_words}
 use Rattle.mpl_mean.specs.Layout.{Class, Function, Member, class_named, classes_from, formals_of, function_named, is_regular, member_numbered, members_from, state_of, words_of}
-use Rattle.mpl_mean.specs.ProgramNodes.{declared_name, function_body}
+use Rattle.mpl_mean.specs.ProgramNodes.{function_body}
 use Rattle.mpl_mean.specs.Scopes.{InFunction, InMain, Surrounding, is_main}
 use Rattle.mpl_mean.specs.Sizes.{Every, words_of_formal, words_of_formals}
 use Rattle.mpl_mean.specs.Types.{AClass, AStruct, meant_by}

@@ -1,5 +1,5 @@
 -- What each flow, call and statement does, beside what the type rules see of it.
-use Rattle.std.proofs.Common.{◌≡◌, List, [], ◌∷◌, map, Option, Some, None, sym, subst}
+use Rattle.std.proofs.Common.{◌≡◌, List, [], ◌∷◌, map, Some, None, sym, subst}
 use Rattle.mpl_ast.specs.declared.flow.Call.{Call, fold-roll-Call, map-Call, roll-Call, ind-Call}
 use Rattle.mpl_ast.specs.declared.flow.Flow.{Flow, fold-roll-Flow, map-Flow, roll-Flow, ind-Flow}
 use Rattle.mpl_ast.specs.declared.flow.Call.TheOpen.{Call-F, Flow-F}
@@ -11,7 +11,7 @@ use Rattle.mpl_mean.specs.Actions as action
 use Rattle.mpl_mean.specs.CallMeaning.{Passes, passes, call_value, call_step, flow_step}
 use Rattle.mpl_mean.specs.Phrases.{Phrase, Phrases, listed, phrase_of_call, phrase_of_flow}
 use Rattle.mpl_mean.specs.Phrases as phrase
-use Rattle.mpl_mean.specs.StatementMeaning.{Does, does, statement_step, block_step, block_effect}
+use Rattle.mpl_mean.specs.StatementMeaning.{Does, does, statement_step, block_step}
 use Rattle.mpl_mean.proofs.SizedForms.{PassesOn, PassesEach, on_own, on_target, expression, Acts, ActsEach, within, declare, assign, call, create, branch, branches, repeats, loops, print, rtf, return, empty}
 use Rattle.mpl_mean.proofs.SizedForms as each
 

@@ -1,13 +1,10 @@
 -- What statements do keeps the sizes.
-use Rattle.std.proofs.Common.{◌≡◌, ℕ, ◌+◌, Bool, true, false, List, [], ◌∷◌, ◌++◌, length, map, Option, Some, None, if◌then◌else◌, ℤ, refl, sym, ap, subst, ◌∙◌}
-use Rattle.std.specs.List.{AllZip, list_all}
+use Rattle.std.proofs.Common.{◌≡◌, ℕ, ◌+◌, true, List, [], ◌∷◌, length, map, Option, Some, None, ℤ, refl, sym, ap, subst, ◌∙◌}
+use Rattle.std.specs.List.{AllZip}
 use Rattle.std.specs.Option.{option_map}
-use Rattle.std.specs.Prelude.{is_some}
-use Rattle.mpl_ast.specs.declared.class.ResultType.{ResultType}
 use Rattle.mpl_ast.specs.declared.class.ResultType.TheVariants.{Void, Typed}
 use Rattle.mpl_ast.specs.declared.expression.Expression.{Expression}
 use Rattle.mpl_ast.specs.declared.flow.Assignment.{Assignment}
-use Rattle.mpl_ast.specs.declared.flow.Flow.{Flow}
 use Rattle.mpl_ast.specs.declared.program.Declaration.{Declaration}
 use Rattle.mpl_ast.specs.declared.statement.ForStart.{ForStart}
 use Rattle.mpl_ast.specs.declared.statement.ForStart.TheVariants.{Declare, Assign}
@@ -16,26 +13,24 @@ use Rattle.mpl_ast.specs.declared.statement.TypeName.{TypeName}
 use Rattle.mpl_value.specs.declared.body.Arg.{Arg}
 use Rattle.mpl_mean.specs.Actions.{Action, Actions, NewLocal, assigns, if_any, new_local, starts}
 use Rattle.mpl_mean.specs.Actions as action
-use Rattle.mpl_mean.specs.CallMeaning.{passes}
 use Rattle.mpl_mean.specs.ExpressionMeaning.{value_of}
 use Rattle.mpl_mean.specs.Layout.{words_of}
-use Rattle.mpl_mean.specs.NameRules.{is_meant}
 use Rattle.mpl_mean.specs.Nodes.{Placed, phrase_nodes}
 use Rattle.mpl_mean.specs.Nodes as node
 use Rattle.mpl_mean.specs.Phrases.{Phrase, begins, phrase_of, phrase_of_flow}
 use Rattle.mpl_mean.specs.Scopes.{Body, Here, InFunction, InGuard, InMain, InMember, NoBody, behind, in_block, with_last}
-use Rattle.mpl_mean.specs.Sizes.{ArgFits, words_of_result}
+use Rattle.mpl_mean.specs.Sizes.{ArgFits}
 use Rattle.mpl_mean.specs.StatementMeaning.{Does, Effect, declares_all, gives_result, line_of, loop, nothing, returns, steps, values_of, while_loop}
 use Rattle.mpl_mean.specs.StatementMeaning as statement
 use Rattle.mpl_mean.specs.StatementNodes.{◌⨾◌, one, phrase_walk, scoped as scoped_walk, action_walk, actions_walk, locals_walk, phrases_if_any, print_walk, declared_local}
 use Rattle.mpl_mean.specs.StatementRules.{can_give, can_return}
-use Rattle.mpl_mean.specs.Store.{Doing, Returns, Variable, ◌>>=◌, ◌>>◌, in_scope, in_turn, printed}
-use Rattle.mpl_mean.specs.Types.{AsResult, Declared, OfInt, ValueType, agree, meant, value_type}
+use Rattle.mpl_mean.specs.Store.{Returns, Variable, ◌>>◌, in_scope, in_turn}
+use Rattle.mpl_mean.specs.Types.{AsResult, Declared, ValueType, agree, meant, value_type}
 use Rattle.mpl_mean.specs.Typing.{type_of}
 use Rattle.mpl_mean.specs.Values.{Value, is_true}
 use Rattle.mpl_mean.proofs.SizedAnswers.{all_keep, zip_from}
-use Rattle.mpl_mean.proofs.SizedArguments.{ArgHas, ValueHas}
-use Rattle.mpl_mean.proofs.SizedAssignments.{agree_arg, assigns_keeps, create_keeps}
+use Rattle.mpl_mean.proofs.SizedArguments.{ArgHas}
+use Rattle.mpl_mean.proofs.SizedAssignments.{assigns_keeps, create_keeps}
 use Rattle.mpl_mean.proofs.SizedExpressionForms.{expression_means}
 use Rattle.mpl_mean.proofs.SizedExpressions.{value_keeps}
 use Rattle.mpl_mean.proofs.SizedFlows.{call_keeps, flow_keeps}

@@ -1,5 +1,5 @@
 -- What a step of a body keeps: the variables in scope, and the sizes of what it holds, gives and makes.
-use Rattle.std.proofs.Common.{◌≡◌, ℕ, ◌+◌, Bool, true, false, List, [], ◌∷◌, ◌++◌, length, map, Option, Some, None, if◌then◌else◌, nat_lt, ℤ, Result, Ok, Err, refl, sym, ap, subst}
+use Rattle.std.proofs.Common.{◌≡◌, ℕ, ◌+◌, Bool, true, false, List, [], ◌∷◌, length, map, Option, if◌then◌else◌, nat_lt, ℤ, Result, Ok, Err, refl, subst}
 use Rattle.std.specs.FinMap.{FinMap}
 use Rattle.std.specs.Ordering.{nat_cmp}
 use Rattle.mpl_ast.specs.declared.program.Declaration.{Declaration}
@@ -12,9 +12,9 @@ use Rattle.mpl_value.specs.declared.body.CallMade.{CallMade}
 use Rattle.mpl_value.specs.declared.known.Known.{Known}
 use Rattle.mpl_value.specs.declared.known.TrapKind.{TrapKind}
 use Rattle.mpl_mean.specs.Layout.{words_of}
-use Rattle.mpl_mean.specs.MoreReplies.{Begins, IsFront}
+use Rattle.mpl_mean.specs.MoreReplies.{IsFront}
 use Rattle.mpl_mean.specs.Sizes.{ArgFits, CallFits, Every, ResultFits}
-use Rattle.mpl_mean.specs.Store.{Store, Outcome, Goes, Returns, Ends, Doing, Variable, ◌>>=◌, ◌>>◌, and_then, give, stop, waits, trap, spend, computed, all_of, force}
+use Rattle.mpl_mean.specs.Store.{Store, Outcome, Goes, Returns, Ends, Doing, Variable, ◌>>=◌, and_then, give, stop, spend, computed, force}
 use Rattle.mpl_mean.proofs.Follows.{store_after}
 use Rattle.mpl_mean.proofs.Later.{Begins-itself}
 

@@ -1,9 +1,6 @@
 -- What is stored, declared, made and given keeps the sizes.
-use Rattle.std.proofs.Common.{◌≡◌, ℕ, zero, suc, ◌+◌, ◌-◌, ◌≤◌, Bool, true, false, List, [], ◌∷◌, ◌++◌, length, map, take, drop, Option, Some, None, if◌then◌else◌, ℤ, pos, refl, sym, ap, subst, ◌∙◌, arith}
-use Rattle.std.proofs.lemmas.List.{append_assoc, length-append, length-drop, length-take, length-take-le}
-use Rattle.std.proofs.Math.Seq.{drop-append_seam}
-use Rattle.std.proofs.lemmas.Slice.Eq.{bytes_eq-Decides}
-use Rattle.std.specs.FinMap.{FinMap, get}
+use Rattle.std.proofs.Common.{◌≡◌, ℕ, zero, suc, ◌+◌, ◌≤◌, Bool, true, false, List, [], ◌∷◌, ◌++◌, length, map, take, drop, Option, Some, None, if◌then◌else◌, ℤ, refl, sym, ap, subst, ◌∙◌, arith}
+use Rattle.std.proofs.lemmas.List.{length-append, length-drop, length-take-le}
 use Rattle.std.specs.Str.{bytes_eq}
 use Rattle.mpl_ast.specs.declared.program.Declaration.{Declaration}
 use Rattle.mpl_value.specs.declared.body.Arg.{Arg}
@@ -11,19 +8,16 @@ use Rattle.mpl_value.specs.declared.body.Arg.TheVariants.{Know, Trapped, Unknown
 use Rattle.mpl_value.specs.declared.body.BodyEnd.TheVariants as end
 use Rattle.mpl_value.specs.declared.body.BodyResult.{BodyResult}
 use Rattle.mpl_value.specs.declared.body.BodyResult.TheVariants as result
-use Rattle.mpl_value.specs.declared.body.CallMade.{CallMade}
-use Rattle.mpl_mean.specs.CallMeaning.{made}
 use Rattle.mpl_mean.specs.Context.{Context}
 use Rattle.mpl_mean.specs.ExpressionMeaning.{next_of, next_number}
-use Rattle.mpl_mean.specs.Layout.{Class, Member, words_of}
-use Rattle.mpl_mean.specs.MoreReplies.{Begins, IsFront}
-use Rattle.mpl_mean.specs.Sizes.{ArgFits, CallFits, CallReplyFits, Every, FoundCallFits, ReplyFits, ResultFits, member_of_id, words_of_result}
-use Rattle.mpl_mean.specs.StatementMeaning.{Effect, created, result_of, give_result, gives_result, nothing, while_loop}
-use Rattle.mpl_mean.specs.Store.{Store, Outcome, Goes, Returns, Ends, Doing, Variable, ◌>>=◌, ◌>>◌, declare, hold, holding, in_scope, oldest, only_oldest, printed, stop, spend, variable_named, with_words, words_at}
+use Rattle.mpl_mean.specs.Layout.{Class}
+use Rattle.mpl_mean.specs.MoreReplies.{IsFront}
+use Rattle.mpl_mean.specs.Sizes.{ArgFits, Every, ResultFits}
+use Rattle.mpl_mean.specs.StatementMeaning.{Effect, created, result_of, give_result, gives_result, while_loop}
+use Rattle.mpl_mean.specs.Store.{Store, Goes, Doing, Variable, hold, holding, printed, variable_named, with_words, words_at}
 use Rattle.mpl_mean.specs.Values.{Value, is_true}
 use Rattle.mpl_mean.proofs.Follows.{store_after}
-use Rattle.mpl_mean.proofs.Later.{Begins-append}
-use Rattle.mpl_mean.proofs.SizedSteps.{Frame, Triple, Keeps, Fits, Rest, RestFits, VariableFits, After, Within, bare, variable_words, concludes, front_itself, give_keeps, stop_keeps, spend_keeps, then_keeps, from_premise, if_keeps, so_keeps}
+use Rattle.mpl_mean.proofs.SizedSteps.{Frame, Keeps, Fits, VariableFits, After, bare, variable_words, front_itself, give_keeps, stop_keeps, spend_keeps, then_keeps, from_premise, if_keeps}
 
 -- ---- words
 

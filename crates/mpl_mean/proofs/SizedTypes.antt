@@ -1,5 +1,5 @@
 -- How many words the values of a type have.
-use Rattle.std.proofs.Common.{◌≡◌, ℕ, ◌+◌, Bool, true, false, ◌&&◌, ◌||◌, List, [], ◌∷◌, length, Option, Some, None, if◌then◌else◌, refl, sym, ap, subst, ◌∙◌}
+use Rattle.std.proofs.Common.{◌≡◌, ℕ, Bool, true, false, ◌&&◌, List, [], ◌∷◌, Option, Some, None, if◌then◌else◌, refl, sym, ap, subst, ◌∙◌}
 use Rattle.std.specs.Prelude.{is_some}
 use Rattle.std.specs.Option.{option_map}
 use Rattle.std.specs.Str.{bytes_eq}
@@ -11,11 +11,11 @@ use Rattle.mpl_ast.specs.declared.statement.Dimension.{Dimension}
 use Rattle.mpl_ast.specs.declared.statement.TypeName.{TypeName}
 use Rattle.mpl_ast.specs.declared.statement.TypeName.TheVariants as type
 use Rattle.mpl_mean.specs.ExpressionRules.{binary_fits, unary_fits}
-use Rattle.mpl_mean.specs.Layout.{Class, class_named, classes_of, dimension_of, is_regular, struct_named, words_of, words_of_class, words_of_named, words_of_word}
+use Rattle.mpl_mean.specs.Layout.{class_named, classes_of, dimension_of, is_regular, struct_named, words_of, words_of_class, words_of_named, words_of_word}
 use Rattle.mpl_mean.specs.Phrases.{Operation, Arithmetic, Comparison, Equality, Logic}
 use Rattle.mpl_mean.specs.Scopes.{Body, InMember, Surrounding, is_in_member, is_persistent}
 use Rattle.mpl_mean.specs.Scopes as scope
-use Rattle.mpl_mean.specs.Sizes.{ArgFits, Every}
+use Rattle.mpl_mean.specs.Sizes.{Every}
 use Rattle.mpl_mean.specs.Types.{AClass, ABool, AnInt, AStruct, Declared, InStruct, Meant, Role, ValueType, OfBool, OfClass, OfInt, OfStruct, Shape, AnArray, ARegular, OneValue, agree, declared_fields, is_field, is_local, meant, meant_by, same_type, shape_of_meant, shape_with, value_type}
 use Rattle.mpl_mean.specs.Types as types
 use Rattle.mpl_mean.specs.Typing.{outcome, takes, takes_both, type_of_binary, type_of_own, type_of_unary}

@@ -1,14 +1,13 @@
 -- An expression at whose nodes no rule fails has a type.
-use Rattle.std.proofs.Common.{◌≡◌, ℕ, ◌+◌, Bool, true, false, List, [], ◌∷◌, ◌++◌, Option, Some, None, if◌then◌else◌, refl, sym, ap, subst, ◌∙◌}
+use Rattle.std.proofs.Common.{◌≡◌, ℕ, Bool, true, false, List, [], ◌∷◌, Option, Some, None, if◌then◌else◌, refl, sym, ap, subst, ◌∙◌}
 use Rattle.std.specs.Prelude.{is_some}
 use Rattle.std.specs.Str.{bytes_eq}
 use Rattle.mpl_ast.specs.declared.expression.Target.{Target}
 use Rattle.mpl_ast.specs.declared.expression.Target.TheVariants as target
-use Rattle.mpl_ast.specs.declared.expression.UnaryOperator.{UnaryOperator}
 use Rattle.mpl_ast.specs.declared.program.Declaration.{Declaration}
 use Rattle.mpl_mean.specs.CallMeaning.{MayName}
 use Rattle.mpl_mean.specs.ExpressionMeaning.{Evaluates}
-use Rattle.mpl_mean.specs.ExpressionRules.{binary_fits, can_be_indexed, is_one_value, is_struct, unary_fits}
+use Rattle.mpl_mean.specs.ExpressionRules.{can_be_indexed, is_one_value, is_struct}
 use Rattle.mpl_mean.specs.Layout.{Function, Part, dimension_of, function_named, part_named, words_of}
 use Rattle.mpl_mean.specs.NameRules.{has_field, meant_has_field}
 use Rattle.mpl_mean.specs.Nodes.{phrase_nodes, target_nodes}
@@ -17,11 +16,10 @@ use Rattle.mpl_mean.specs.Phrases as phrase
 use Rattle.mpl_mean.specs.Scopes.{is_main, plain_function, variable_of}
 use Rattle.mpl_mean.specs.Sizes.{Every}
 use Rattle.mpl_mean.specs.Store.{Variable, variable_named}
-use Rattle.mpl_mean.specs.Types.{AsResult, Declared, InStruct, OfBool, OfClass, OfInt, OfStruct, Shape, AnArray, ARegular, OneValue, ValueType, declared_fields, first_named, is_int, meant, shape_of, value_type}
-use Rattle.mpl_mean.specs.Typing.{shape_behind_dot, shape_of_field, target_shape, type_of, type_of_binary, type_of_element, type_of_plain_call, type_of_unary, type_of_whole}
+use Rattle.mpl_mean.specs.Types.{Declared, InStruct, OfBool, OfClass, OfInt, OfStruct, Shape, AnArray, ARegular, OneValue, ValueType, declared_fields, first_named, is_int, meant, shape_of}
+use Rattle.mpl_mean.specs.Typing.{shape_behind_dot, shape_of_field, target_shape, type_of, type_of_element, type_of_plain_call, type_of_whole}
 use Rattle.mpl_mean.proofs.SizedArguments.{function_of}
 use Rattle.mpl_mean.proofs.SizedForms.{Means, number, truth, own, input, whole, element, plain, parenthesized, unary, arithmetic, compares, equates, or, and}
-use Rattle.mpl_mean.proofs.SizedParts.{PartFits}
 use Rattle.mpl_mean.proofs.SizedPlaces.{struct_type, which}
 use Rattle.mpl_mean.proofs.SizedRules.{AllRight, Right, WellDeclared, every_left, every_right}
 use Rattle.mpl_mean.proofs.SizedSettings.{Matches, PlaceFits, Setting, here}

@@ -1,13 +1,11 @@
 -- The law of sizes.
-use Rattle.std.proofs.Common.{◌≡◌, ℕ, ◌≤◌, Bool, true, false, not, List, [], ◌∷◌, length, map, Option, Some, None, if◌then◌else◌, ℤ, refl, sym, ap, subst, ◌∙◌, arith}
+use Rattle.std.proofs.Common.{◌≡◌, ℕ, Bool, true, false, not, List, [], ◌∷◌, length, map, Option, Some, None, if◌then◌else◌, refl, sym, ap, subst, ◌∙◌, arith}
 use Rattle.std.specs.FinMap.{FinMap}
 use Rattle.std.specs.Option.{option_and_then, option_map}
 use Rattle.std.specs.Ordering.{nat_cmp}
 use Rattle.std.specs.Prelude.{codes}
-use Rattle.mpl_ast.specs.declared.class.ResultType.{ResultType}
 use Rattle.mpl_ast.specs.declared.program.Declaration.{Declaration}
 use Rattle.mpl_ast.specs.declared.program.Program.{Program}
-use Rattle.mpl_value.specs.declared.body.BodyEnd.TheVariants as end
 use Rattle.mpl_value.specs.declared.body.BodyStart.{BodyStart}
 use Rattle.mpl_value.specs.declared.body.CallMade.{CallMade}
 use Rattle.mpl_value.specs.declared.body.MemberId.{MemberId}
@@ -17,9 +15,9 @@ use Rattle.mpl_mean.specs.Actions.{action_of}
 use Rattle.mpl_mean.specs.Actions as action
 use Rattle.mpl_mean.specs.BodyMeaning.{below_at, body_of, context_with, formals_holding, in_class, main_yield, member_body, member_yield, run, split_words, statements_of, store_of, store_with, yield_of}
 use Rattle.mpl_mean.specs.Context.{Context}
-use Rattle.mpl_mean.specs.Layout.{Class, Function, Member, classes_of, function_named, member_named, part_named, parts_of, state_of, words_of_parts}
+use Rattle.mpl_mean.specs.Layout.{Class, Function, Member, function_named, member_named, part_named, parts_of, state_of, words_of_parts}
 use Rattle.mpl_mean.specs.Rules.{is_typed}
-use Rattle.mpl_mean.specs.Scopes.{InMain, InMember, Surrounding, is_persistent, state_members}
+use Rattle.mpl_mean.specs.Scopes.{InMain, InMember, state_members}
 use Rattle.mpl_mean.specs.Sizes.{CallFits, CallReplyFits, Every, MemberFits, RepliesFit, ResultFits, Sized, StartFits, WordsFit, member_of_id, words_given, words_of_formals, words_of_object, words_of_result}
 use Rattle.mpl_mean.specs.StatementNodes.{actions_walk}
 use Rattle.mpl_mean.specs.Store.{Store, Outcome, Goes, Returns, Ends, Variable}
@@ -27,16 +25,16 @@ use Rattle.mpl_mean.specs.Types.{Declared, InState, OfClass, OneValue, declared_
 use Rattle.mpl_mean.specs.Typing.{items_called, items_of_meant, member_called, member_of}
 use Rattle.mpl_mean.proofs.Follows.{store_after}
 use Rattle.mpl_mean.proofs.SizedAnswers.{IsMember}
-use Rattle.mpl_mean.proofs.SizedBodies.{RunReady, at_fits, end_fits, formals_fit, formals_match, member_is, run_moves, setting}
+use Rattle.mpl_mean.proofs.SizedBodies.{at_fits, end_fits, formals_fit, formals_match, member_is, run_moves, setting}
 use Rattle.mpl_mean.proofs.SizedCallees.{MemberOf, callees_of}
 use Rattle.mpl_mean.proofs.SizedLevels.{below_fits}
 use Rattle.mpl_mean.proofs.SizedParts.{PartFits, parts_fit}
 use Rattle.mpl_mean.proofs.SizedPrograms.{well_program}
 use Rattle.mpl_mean.proofs.SizedRules.{AllRight, WellResult, within}
 use Rattle.mpl_mean.proofs.SizedScopes.{Moved}
-use Rattle.mpl_mean.proofs.SizedSettings.{Callees, Setting, Sound, frame, inside}
+use Rattle.mpl_mean.proofs.SizedSettings.{Callees, Setting, Sound, frame}
 use Rattle.mpl_mean.proofs.SizedStarts.{ClassNumbered, class_numbered, main_of, split_fit, surrounding_of}
-use Rattle.mpl_mean.proofs.SizedSteps.{After, Frame, Rest, RestFits, bare, front_itself}
+use Rattle.mpl_mean.proofs.SizedSteps.{After, Frame, Rest, bare, front_itself}
 use Rattle.mpl_mean.proofs.SizedTypes.{WellProgram}
 
 -- what is shown of the yield of a start, by the words of its result and of its state
