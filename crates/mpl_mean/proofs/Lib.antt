@@ -43,6 +43,7 @@ mod FirstBodies
 mod FirstPrograms
 mod SizedSteps
 mod SizedForms
+mod SizedExpressionLevels
 mod SizedExpressionForms
 mod SizedStatementForms
 mod SizedStores
@@ -62,6 +63,7 @@ mod SizedCalls
 mod SizedFlows
 mod SizedAssignments
 mod SizedLocals
+mod SizedBlocks
 mod SizedStatements
 mod SizedBodies
 mod SizedLevels

@@ -1,14 +1,14 @@
 -- What each expression means, beside what the type rules see of it and the name that it is.
 use Rattle.std.proofs.Common.{◌≡◌, List, [], ◌∷◌, map, true, false, sym, subst}
-use Rattle.mpl_ast.specs.declared.expression.Conjunction.{Conjunction, fold-Conjunction, fold-roll-Conjunction, map-Conjunction, roll-Conjunction}
-use Rattle.mpl_ast.specs.declared.expression.Equality.{Equality, fold-Equality, fold-roll-Equality, map-Equality, roll-Equality}
+use Rattle.mpl_ast.specs.declared.expression.Conjunction.{Conjunction, fold-roll-Conjunction, map-Conjunction, roll-Conjunction}
+use Rattle.mpl_ast.specs.declared.expression.Equality.{Equality, fold-roll-Equality, map-Equality, roll-Equality}
 use Rattle.mpl_ast.specs.declared.expression.Expression.{Expression, fold-roll-Expression, map-Expression, roll-Expression, ind-Expression}
-use Rattle.mpl_ast.specs.declared.expression.Place.{Place, fold-Place, fold-roll-Place, map-Place, roll-Place}
-use Rattle.mpl_ast.specs.declared.expression.Primary.{Primary, fold-Primary, fold-roll-Primary, map-Primary, roll-Primary}
-use Rattle.mpl_ast.specs.declared.expression.Relation.{Relation, fold-Relation, fold-roll-Relation, map-Relation, roll-Relation}
-use Rattle.mpl_ast.specs.declared.expression.Sum.{Sum, fold-Sum, fold-roll-Sum, map-Sum, roll-Sum}
-use Rattle.mpl_ast.specs.declared.expression.Term.{Term, fold-Term, fold-roll-Term, map-Term, roll-Term}
-use Rattle.mpl_ast.specs.declared.expression.Unary.{Unary, fold-Unary, fold-roll-Unary, map-Unary, roll-Unary}
+use Rattle.mpl_ast.specs.declared.expression.Place.{Place, fold-roll-Place, map-Place, roll-Place}
+use Rattle.mpl_ast.specs.declared.expression.Primary.{Primary, fold-roll-Primary, map-Primary, roll-Primary}
+use Rattle.mpl_ast.specs.declared.expression.Relation.{Relation, fold-roll-Relation, map-Relation, roll-Relation}
+use Rattle.mpl_ast.specs.declared.expression.Sum.{Sum, fold-roll-Sum, map-Sum, roll-Sum}
+use Rattle.mpl_ast.specs.declared.expression.Term.{Term, fold-roll-Term, map-Term, roll-Term}
+use Rattle.mpl_ast.specs.declared.expression.Unary.{Unary, fold-roll-Unary, map-Unary, roll-Unary}
 use Rattle.mpl_ast.specs.declared.expression.Conjunction.TheOpen.{Conjunction-F, Equality-F, Expression-F, Place-F, Primary-F, Relation-F, Sum-F, Term-F, Unary-F}
 use Rattle.mpl_mean.specs.CallMeaning.{MayName, name_of_conjunction, name_of_equality, name_of_expression, name_of_place, name_of_primary, name_of_relation, name_of_sum, name_of_term, name_of_unary}
 use Rattle.mpl_mean.specs.CallMeaning as call
@@ -19,73 +19,10 @@ use Rattle.mpl_mean.specs.Phrases as phrase
 use Rattle.mpl_mean.proofs.Levels.{phrase_of_conjunction, phrase_of_equality, phrase_of_primary, phrase_of_relation, phrase_of_sum, phrase_of_term, phrase_of_unary}
 use Rattle.mpl_mean.proofs.SizedForms.{Means, number, truth, own, input, whole, element, plain, parenthesized, unary, arithmetic, compares, equates, or, and, MeansEach}
 use Rattle.mpl_mean.proofs.SizedForms as each
+use Rattle.mpl_mean.proofs.SizedExpressionLevels.{conjunction_value, conjunction_name, equality_value, equality_name, place_value, place_name, primary_value, primary_name, relation_value, relation_name, sum_value, sum_name, term_value, term_name, unary_value, unary_name}
 
 three : {v w : Evaluates} {p q : Phrase} {m n : MayName} → v ≡ w → p ≡ q → m ≡ n → Means v p m → Means w q n
 three {v} {w} {p} {q} {m} {n} i j k h = subst (λ w. Means w q n) i (subst (λ q. Means v q n) j (subst (λ n. Means v p n) k h))
-
-abbrev conjunction_value : Conjunction → Evaluates
-conjunction_value = fold-Conjunction Evaluates Evaluates Evaluates Evaluates Evaluates Evaluates Evaluates Evaluates Evaluates
-    conjunction_step equality_step expression_step place_step primary_step relation_step sum_step term_step unary_step
-
-abbrev conjunction_name : Conjunction → MayName
-conjunction_name = fold-Conjunction MayName MayName MayName MayName MayName MayName MayName MayName MayName
-    name_of_conjunction name_of_equality name_of_expression name_of_place name_of_primary name_of_relation name_of_sum name_of_term name_of_unary
-
-abbrev equality_value : Equality → Evaluates
-equality_value = fold-Equality Evaluates Evaluates Evaluates Evaluates Evaluates Evaluates Evaluates Evaluates Evaluates
-    conjunction_step equality_step expression_step place_step primary_step relation_step sum_step term_step unary_step
-
-abbrev equality_name : Equality → MayName
-equality_name = fold-Equality MayName MayName MayName MayName MayName MayName MayName MayName MayName
-    name_of_conjunction name_of_equality name_of_expression name_of_place name_of_primary name_of_relation name_of_sum name_of_term name_of_unary
-
-abbrev place_value : Place → Evaluates
-place_value = fold-Place Evaluates Evaluates Evaluates Evaluates Evaluates Evaluates Evaluates Evaluates Evaluates
-    conjunction_step equality_step expression_step place_step primary_step relation_step sum_step term_step unary_step
-
-abbrev place_name : Place → MayName
-place_name = fold-Place MayName MayName MayName MayName MayName MayName MayName MayName MayName
-    name_of_conjunction name_of_equality name_of_expression name_of_place name_of_primary name_of_relation name_of_sum name_of_term name_of_unary
-
-abbrev primary_value : Primary → Evaluates
-primary_value = fold-Primary Evaluates Evaluates Evaluates Evaluates Evaluates Evaluates Evaluates Evaluates Evaluates
-    conjunction_step equality_step expression_step place_step primary_step relation_step sum_step term_step unary_step
-
-abbrev primary_name : Primary → MayName
-primary_name = fold-Primary MayName MayName MayName MayName MayName MayName MayName MayName MayName
-    name_of_conjunction name_of_equality name_of_expression name_of_place name_of_primary name_of_relation name_of_sum name_of_term name_of_unary
-
-abbrev relation_value : Relation → Evaluates
-relation_value = fold-Relation Evaluates Evaluates Evaluates Evaluates Evaluates Evaluates Evaluates Evaluates Evaluates
-    conjunction_step equality_step expression_step place_step primary_step relation_step sum_step term_step unary_step
-
-abbrev relation_name : Relation → MayName
-relation_name = fold-Relation MayName MayName MayName MayName MayName MayName MayName MayName MayName
-    name_of_conjunction name_of_equality name_of_expression name_of_place name_of_primary name_of_relation name_of_sum name_of_term name_of_unary
-
-abbrev sum_value : Sum → Evaluates
-sum_value = fold-Sum Evaluates Evaluates Evaluates Evaluates Evaluates Evaluates Evaluates Evaluates Evaluates
-    conjunction_step equality_step expression_step place_step primary_step relation_step sum_step term_step unary_step
-
-abbrev sum_name : Sum → MayName
-sum_name = fold-Sum MayName MayName MayName MayName MayName MayName MayName MayName MayName
-    name_of_conjunction name_of_equality name_of_expression name_of_place name_of_primary name_of_relation name_of_sum name_of_term name_of_unary
-
-abbrev term_value : Term → Evaluates
-term_value = fold-Term Evaluates Evaluates Evaluates Evaluates Evaluates Evaluates Evaluates Evaluates Evaluates
-    conjunction_step equality_step expression_step place_step primary_step relation_step sum_step term_step unary_step
-
-abbrev term_name : Term → MayName
-term_name = fold-Term MayName MayName MayName MayName MayName MayName MayName MayName MayName
-    name_of_conjunction name_of_equality name_of_expression name_of_place name_of_primary name_of_relation name_of_sum name_of_term name_of_unary
-
-abbrev unary_value : Unary → Evaluates
-unary_value = fold-Unary Evaluates Evaluates Evaluates Evaluates Evaluates Evaluates Evaluates Evaluates Evaluates
-    conjunction_step equality_step expression_step place_step primary_step relation_step sum_step term_step unary_step
-
-abbrev unary_name : Unary → MayName
-unary_name = fold-Unary MayName MayName MayName MayName MayName MayName MayName MayName MayName
-    name_of_conjunction name_of_equality name_of_expression name_of_place name_of_primary name_of_relation name_of_sum name_of_term name_of_unary
 
 abbrev Good-Conjunction : Conjunction → Type 0
 Good-Conjunction t = Means (conjunction_value t) (phrase_of_conjunction t) (conjunction_name t)
