@@ -55,15 +55,22 @@ made_keeps G vs object m args is fit replies = record {
   grows = λ s. Begins-append _ (λ x. refl) s.calls _;
   holds = λ s q w.
       let call : CallMade = record { call = length s.calls + 1; object = object; member = record { 0 = m.id }; args = args } in
-      let found = (is q.0).1 in
-      ((q.0,
-      subst (λ f. FoundReplyFits G.declarations (get G.replies (length s.calls + 1)) f) found
-      (last_of_front (CallReplyFits G.declarations G.replies) s.calls call G.calls w (replies q.0))),
-      (q.1.0, q.1.1, record {
-        state = q.1.2.state;
-        calls = every_append (CallFits G.declarations) s.calls (call ∷ []) q.1.2.calls (subst (λ f. FoundCallFits G.declarations args f) (sym found) (fit q.0), tt);
-        result = q.1.2.result;
-      }));
+      let found = (is q.0).1 in (
+        (
+          q.0,
+          subst (λ f. FoundReplyFits G.declarations (get G.replies (length s.calls + 1)) f) found
+              (last_of_front (CallReplyFits G.declarations G.replies) s.calls call G.calls w (replies q.0)),
+        ),
+        (
+          q.1.0,
+          q.1.1,
+          record {
+            state = q.1.2.state;
+            calls = every_append (CallFits G.declarations) s.calls (call ∷ []) q.1.2.calls (subst (λ f. FoundCallFits G.declarations args f) (sym found) (fit q.0), tt);
+            result = q.1.2.result;
+          },
+        ),
+      );
 }
 
 -- ---- answers

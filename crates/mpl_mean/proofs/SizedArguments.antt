@@ -62,9 +62,9 @@ zip_agrees ds well (t ∷ ts) (formal ∷ formals) i e h w =
     let two = two_true (agree t f) (all_agree ts (formal_types ds formals)) h in
     let none = none_of (is_none t) (list_any is_none ts) i in
     (agrees ds well t formal f none.0 refl (formal_value (meant ds formal.type_name) w.0.0) two.0, zip_agrees ds well ts formals none.1 (omega arith) two.1 w.1) where
-  none_of : (a b : Bool) → (a || b) ≡ false → (a ≡ false) × (b ≡ false)
-  none_of true b e = absurd cc
-  none_of false b e = (refl, e)
+      none_of : (a b : Bool) → (a || b) ≡ false → (a ≡ false) × (b ≡ false)
+      none_of true b e = absurd cc
+      none_of false b e = (refl, e)
 
 pub formals_agree : (ds : List Declaration) → WellProgram ds → (ts : List (Option ValueType)) (formals : List Formal) → list_any is_none ts ≡ false
     → arguments_fit ts (formal_types ds formals) ≡ true → Every (WellDeclared ds) (declared_formals formals) → AllZip (FormalHas ds) ts formals

@@ -145,7 +145,7 @@ module _ (G : Frame) (S : Setting) (s : Sound G S) (blocks : List (List Declared
       let p = phrase_of_place a.place in
       let q = phrase_of_flow a.value in
       let same : p ≡ phrase_of_layer (out-Place a.place) =
-          fold_out-Place Phrase Phrase Phrase Phrase Phrase Phrase Phrase Phrase Phrase phrase.conjunction_step phrase.equality_step phrase.expression_step phrase.place_step phrase.primary_step phrase.relation_step phrase.sum_step phrase.term_step phrase.unary_step a.place in
+      fold_out-Place Phrase Phrase Phrase Phrase Phrase Phrase Phrase Phrase Phrase phrase.conjunction_step phrase.equality_step phrase.expression_step phrase.place_step phrase.primary_step phrase.relation_step phrase.sum_step phrase.term_step phrase.unary_step a.place in
       so_keeps G vs (λ r. r) (λ b r e. tt)
       (then_keeps G vs (from_premise G vs (λ r. (r.0, every_right Right (phrase_nodes h p) (phrase_nodes h q) (r.1).1)) (flow_keeps G S s blocks vs a.value)) (λ value.
       from_premise G vs

@@ -69,11 +69,11 @@ formals_match ds total name [] arguments state part h w p = p
 formals_match ds total name (formal ∷ formals) [] state part h w p = absurd h
 formals_match ds total name (formal ∷ formals) (words ∷ arguments) state part h w p =
     chosen (bytes_eq formal.name.text name) (formals_match ds total name formals arguments state part h.1 w.1 p) where
-  chosen : (b : Bool) → PlaceFits ds total (first_named name (declared_formals formals ++ state)) (variable_named name (map bare (formals_holding formals arguments))) part
-      → PlaceFits ds total (if b then Some (record { role = types.AsFormal; name = formal.name.text; type = formal.type_name; dimension = None }) else first_named name (declared_formals formals ++ state))
-      (if b then Some (record { name = formal.name.text; type = formal.type_name; dimension = None; holds = Unknown }) else variable_named name (map bare (formals_holding formals arguments))) part
-  chosen true k = (refl, refl, w.0)
-  chosen false k = k
+      chosen : (b : Bool) → PlaceFits ds total (first_named name (declared_formals formals ++ state)) (variable_named name (map bare (formals_holding formals arguments))) part
+          → PlaceFits ds total (if b then Some (record { role = types.AsFormal; name = formal.name.text; type = formal.type_name; dimension = None }) else first_named name (declared_formals formals ++ state))
+          (if b then Some (record { name = formal.name.text; type = formal.type_name; dimension = None; holds = Unknown }) else variable_named name (map bare (formals_holding formals arguments))) part
+      chosen true k = (refl, refl, w.0)
+      chosen false k = k
 
 pub formals_fit : (ds : List Declaration) (formals : List Formal) (arguments : List (List ℤ)) → WordsFit ds formals arguments → Every (VariableFits ds) (formals_holding formals arguments)
 formals_fit ds [] arguments h = tt
@@ -166,9 +166,10 @@ module _ (ds : List Declaration) (well : WellProgram ds) (replies : FinMap nat_c
         let o = run context f.body.statements (with_variables (formals_holding f.formals arguments) s) in
         let t = run_moves G S (function_sound state result calls f q.0.0) (map bare (formals_holding f.formals arguments)) f.body.statements in
         held s q o
-        (t.holds (with_variables (formals_holding f.formals arguments) s)
-        ((λ name. formals_match ds state name f.formals arguments [] None q.0.1 (q.0.0).routine.0 tt, (q.0.0).routine.1),
-        (refl, formals_fit ds f.formals arguments q.0.1, record { state = q.1.2.state; calls = q.1.2.calls; result = q.1.2.result }))
+        (t.holds (with_variables (formals_holding f.formals arguments) s) (
+          (λ name. formals_match ds state name f.formals arguments [] None q.0.1 (q.0.0).routine.0 tt, (q.0.0).routine.1),
+          (refl, formals_fit ds f.formals arguments q.0.1, record { state = q.1.2.state; calls = q.1.2.calls; result = q.1.2.result }),
+        )
         (inside_calls s o w));
   } where
     grown : (s : Store) (o : Outcome (Unit {0})) → IsFront s.calls (store_after o).calls → IsFront s.calls (store_after (after_plain f s o)).calls

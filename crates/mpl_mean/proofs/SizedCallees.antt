@@ -180,9 +180,10 @@ callees_of {ds} well name meant regular items e class i member = found (class_of
   join c first None (Some m) z j k w a = absurd a
   join c first (Some n) None z j k w a = absurd a
   join c first (Some n) (Some m) z j k w a =
-      let r = w m j in
-      (record { formals = a.0; result = a.1; well = r.0.0; typed = r.1 },
-      record { is = k m j; in_place = λ t. record { class = record { name = name; is_regular = regular; items = items }; regular = t; stateless = z t; well = r } })
+      let r = w m j in (
+        record { formals = a.0; result = a.1; well = r.0.0; typed = r.1 },
+        record { is = k m j; in_place = λ t. record { class = record { name = name; is_regular = regular; items = items }; regular = t; stateless = z t; well = r } },
+      )
 
   found : ClassFound ds name regular items 0 0 ds → Callees ds (MemberOf ds regular) (member_of member items) (member_named member class.members)
   found f =

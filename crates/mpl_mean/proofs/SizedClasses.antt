@@ -52,9 +52,9 @@ struct_absent : (name : List ℕ) (earlier : List (List ℕ)) (ds : List Declara
 struct_absent name earlier [] h n = refl
 struct_absent name earlier (declaration.Struct at line struct fields ∷ ds) h n =
     chosen (bytes_eq struct.text name) refl (struct_absent name (earlier ++ struct.text ∷ []) ds (among_more name earlier (struct.text ∷ []) h) n.1) where
-  chosen : (b : Bool) → bytes_eq struct.text name ≡ b → struct_named name ds ≡ None → (if b then Some fields else struct_named name ds) ≡ None
-  chosen true e k = absurd (let i = subst (λ w. list_any (bytes_eq w) earlier ≡ true) (sym (bytes_same struct.text name e)) h in let j = n.0 in cc)
-  chosen false e k = k
+      chosen : (b : Bool) → bytes_eq struct.text name ≡ b → struct_named name ds ≡ None → (if b then Some fields else struct_named name ds) ≡ None
+      chosen true e k = absurd (let i = subst (λ w. list_any (bytes_eq w) earlier ≡ true) (sym (bytes_same struct.text name e)) h in let j = n.0 in cc)
+      chosen false e k = k
 struct_absent name earlier (declaration.Class at line kind class items ∷ ds) h n = struct_absent name (earlier ++ class.text ∷ []) ds (among_more name earlier (class.text ∷ []) h) n.1
 struct_absent name earlier (declaration.Function at result function formals body ∷ ds) h n =
     struct_absent name (earlier ++ function.text ∷ []) ds (among_more name earlier (function.text ∷ []) h) n.1
@@ -142,58 +142,58 @@ pub class_found : (whole : List Declaration) (name meant : List ℕ) (regular : 
 class_found whole name meant regular items number id earlier [] n w e = absurd cc
 class_found whole name meant regular items number id earlier (declaration.Struct at line struct fields ∷ ds) n w e =
     chosen (bytes_eq struct.text name) refl e (class_found whole name meant regular items number id (earlier ++ struct.text ∷ []) ds n.1 w.1) where
-  chosen : (b : Bool) → bytes_eq struct.text name ≡ b → (if b then AStruct name fields else meant_by name ds) ≡ AClass meant regular items
-      → (meant_by name ds ≡ AClass meant regular items → ClassFound whole name regular items number id ds)
-      → ClassFound whole name regular items number id (declaration.Struct at line struct fields ∷ ds)
-  chosen true i e k = absurd cc
-  chosen false i e k =
-      let h = k e in
-      record {
-        class = h.class;
-        first = h.first;
-        absent = ap (λ b. if b then Some fields else struct_named name ds) i ∙ h.absent;
-        found = h.found;
-        is_regular = h.is_regular;
-        members = h.members;
-        numbered = h.numbered;
-        right = h.right;
-      }
+      chosen : (b : Bool) → bytes_eq struct.text name ≡ b → (if b then AStruct name fields else meant_by name ds) ≡ AClass meant regular items
+          → (meant_by name ds ≡ AClass meant regular items → ClassFound whole name regular items number id ds)
+          → ClassFound whole name regular items number id (declaration.Struct at line struct fields ∷ ds)
+      chosen true i e k = absurd cc
+      chosen false i e k =
+          let h = k e in
+          record {
+            class = h.class;
+            first = h.first;
+            absent = ap (λ b. if b then Some fields else struct_named name ds) i ∙ h.absent;
+            found = h.found;
+            is_regular = h.is_regular;
+            members = h.members;
+            numbered = h.numbered;
+            right = h.right;
+          }
 class_found whole name meant regular items number id earlier (declaration.Class at line kind class others ∷ ds) n w e =
     chosen (bytes_eq class.text name) refl e (class_found whole name meant regular items (number + 1) (id + length (members_from id others)) (earlier ++ class.text ∷ []) ds n.1 w.1) where
-  chosen : (b : Bool) → bytes_eq class.text name ≡ b → (if b then AClass name (is_regular kind) others else meant_by name ds) ≡ AClass meant regular items
-      → (meant_by name ds ≡ AClass meant regular items → ClassFound whole name regular items (number + 1) (id + length (members_from id others)) ds)
-      → ClassFound whole name regular items number id (declaration.Class at line kind class others ∷ ds)
-  chosen true i e k =
-      let same = bytes_same class.text name i in
-      let is = class_is e in
-      record {
-        class = (class_at number id kind class others);
-        first = id;
-        absent = struct_absent name (earlier ++ class.text ∷ []) ds (subst (λ w. list_any (bytes_eq name) (earlier ++ w ∷ []) ≡ true) (sym same) (among_last name earlier)) n.1;
-        found = ap (λ b. if b then Some (class_at number id kind class others) else class_named name (classes_from (number + 1) (id + length (members_from id others)) ds)) i;
-        is_regular = is.0;
-        members = ap (members_from id) is.1;
-        numbered = λ member m j.
-            let h = named_number member id others m j in
-            (h.least, ap (λ f. member_or (class_at number id kind class others) f (member_of_classes m.id (classes_from (number + 1) (id + length (members_from id others)) ds))) h.found);
-        right = subst (λ (s : Surrounding). WellClass whole s) (ap (λ w. record { name = w; is_regular = is_regular kind; items = others }) same
-        ∙ (ap (λ r. record { name = name; is_regular = r; items = others }) is.0 ∙ ap (λ k. record { name = name; is_regular = regular; items = k }) is.1)) w.0;
-      }
-  chosen false i e k =
-      let h = k e in
-      record {
-        class = h.class;
-        first = h.first;
-        absent = h.absent;
-        found = ap (λ b. if b then Some (class_at number id kind class others) else class_named name (classes_from (number + 1) (id + length (members_from id others)) ds)) i ∙ h.found;
-        is_regular = h.is_regular;
-        members = h.members;
-        numbered = λ member m j.
-            let q = h.numbered member m j in
-            let least = q.0 in
-            (omega arith, ap (λ f. member_or (class_at number id kind class others) f (member_of_classes m.id (classes_from (number + 1) (id + length (members_from id others)) ds))) (none_above m.id id others least) ∙ q.1);
-        right = h.right;
-      }
+      chosen : (b : Bool) → bytes_eq class.text name ≡ b → (if b then AClass name (is_regular kind) others else meant_by name ds) ≡ AClass meant regular items
+          → (meant_by name ds ≡ AClass meant regular items → ClassFound whole name regular items (number + 1) (id + length (members_from id others)) ds)
+          → ClassFound whole name regular items number id (declaration.Class at line kind class others ∷ ds)
+      chosen true i e k =
+          let same = bytes_same class.text name i in
+          let is = class_is e in
+          record {
+            class = (class_at number id kind class others);
+            first = id;
+            absent = struct_absent name (earlier ++ class.text ∷ []) ds (subst (λ w. list_any (bytes_eq name) (earlier ++ w ∷ []) ≡ true) (sym same) (among_last name earlier)) n.1;
+            found = ap (λ b. if b then Some (class_at number id kind class others) else class_named name (classes_from (number + 1) (id + length (members_from id others)) ds)) i;
+            is_regular = is.0;
+            members = ap (members_from id) is.1;
+            numbered = λ member m j.
+                let h = named_number member id others m j in
+                (h.least, ap (λ f. member_or (class_at number id kind class others) f (member_of_classes m.id (classes_from (number + 1) (id + length (members_from id others)) ds))) h.found);
+            right = subst (λ (s : Surrounding). WellClass whole s) (ap (λ w. record { name = w; is_regular = is_regular kind; items = others }) same
+                ∙ (ap (λ r. record { name = name; is_regular = r; items = others }) is.0 ∙ ap (λ k. record { name = name; is_regular = regular; items = k }) is.1)) w.0;
+          }
+      chosen false i e k =
+          let h = k e in
+          record {
+            class = h.class;
+            first = h.first;
+            absent = h.absent;
+            found = ap (λ b. if b then Some (class_at number id kind class others) else class_named name (classes_from (number + 1) (id + length (members_from id others)) ds)) i ∙ h.found;
+            is_regular = h.is_regular;
+            members = h.members;
+            numbered = λ member m j.
+                let q = h.numbered member m j in
+                let least = q.0 in
+                (omega arith, ap (λ f. member_or (class_at number id kind class others) f (member_of_classes m.id (classes_from (number + 1) (id + length (members_from id others)) ds))) (none_above m.id id others least) ∙ q.1);
+            right = h.right;
+          }
 class_found whole name meant regular items number id earlier (declaration.Function at result function formals body ∷ ds) n w e =
     let h = class_found whole name meant regular items number id (earlier ++ function.text ∷ []) ds n.1 w.1 e in
     record {

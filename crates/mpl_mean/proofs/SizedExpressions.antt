@@ -93,9 +93,10 @@ module _ (G : Frame) (S : Setting) (s : Sound G S) (blocks : List (List Declared
       (binary_size G.declarations o (type_of (here G S blocks) p) (type_of (here G S blocks) q) m n h i (r.1).0.operands)
 
   each_ready : (p : Phrase) (ps : Phrases) → ReadyEach (phrase.MorePhrases p ps) → Ready p × ReadyEach ps
-  each_ready p ps r =
-      ((r.0, every_left Right (phrase_nodes (here G S blocks) p) (nodes_of_each (here G S blocks) ps) r.1),
-      (r.0, every_right Right (phrase_nodes (here G S blocks) p) (nodes_of_each (here G S blocks) ps) r.1))
+  each_ready p ps r = (
+    (r.0, every_left Right (phrase_nodes (here G S blocks) p) (nodes_of_each (here G S blocks) ps) r.1),
+    (r.0, every_right Right (phrase_nodes (here G S blocks) p) (nodes_of_each (here G S blocks) ps) r.1),
+  )
 
   plain_fits : (f : Name) (at : ℕ) (ps : Phrases) (values : List Value) → Ready (phrase.PlainCall at f ps) → AllZip (ValueHas G.declarations) (types_of (here G S blocks) ps) values
       → (g : Function) × (function_named f.text G.declarations ≡ Some g) × PlainFits G.declarations g × WordsFit G.declarations g.formals (map (λ (value : Value). value.words) values)
@@ -104,10 +105,13 @@ module _ (G : Frame) (S : Setting) (s : Sound G S) (blocks : List (List Declared
       let takes = (r.1).1.0.plain in
       let g = chosen_function (is_main f.text) (function_named f.text G.declarations) known in
       let fits = function_of G.declarations f.text g.0 G.declarations g.1 (s.well).each g.2 in
-      let is : plain_function (here G S blocks) f.text ≡ Some g.0 = ap (λ b. if b then None else function_named f.text G.declarations) g.1 ∙ g.2 in
-      (g.0, g.2, fits,
-      words_fit G.declarations s.well (types_of (here G S blocks) ps) (g.0).formals values h
-      (subst (λ o. function_takes G.declarations o (types_of (here G S blocks) ps) ≡ true) is takes) (fits.routine).0)
+      let is : plain_function (here G S blocks) f.text ≡ Some g.0 = ap (λ b. if b then None else function_named f.text G.declarations) g.1 ∙ g.2 in (
+        g.0,
+        g.2,
+        fits,
+        words_fit G.declarations s.well (types_of (here G S blocks) ps) (g.0).formals values h
+            (subst (λ o. function_takes G.declarations o (types_of (here G S blocks) ps) ≡ true) is takes) (fits.routine).0,
+      )
 
   plain_size : (f : Name) (at : ℕ) (ps : Phrases) (v : Value) → Ready (phrase.PlainCall at f ps)
       → ((g : Function) → function_named f.text G.declarations ≡ Some g → length v.words ≡ words_of G.declarations g.result None)

@@ -92,13 +92,13 @@ module _ (G : Frame) (S : Setting) (s : Sound G S) (blocks : List (List Declared
       (persistent_keeps G S s blocks vs S.context.object m (types_of (here G S blocks) ps) fs (zip_from G vs (ArgHas G.declarations) (λ p. p.0) _ fs r) (λ p. (seen m p).3)
       (λ p. let c = seen m p in callee_fits s.well (types_of (here G S blocks) ps) (Called None member) m c.0 c.1 c.2 (two_true _ _ ((ready p.0).1).0.call).1)
       (λ p. own_may S.body S.class (own p.0)))) where
-    own : P → (is_in_member S.body && is_persistent S.class) ≡ true
-    own p = ((ready p).1).1.1.0.own
+        own : P → (is_in_member S.body && is_persistent S.class) ≡ true
+        own p = ((ready p).1).1.1.0.own
 
-    seen : (m : Member) → P × (member_named member.text S.context.members ≡ Some m) → (k : Member) × (Called None member ≡ Some k) × Callee G.declarations m k × IsMember G.declarations m
-    seen m p =
-        callee_seen G.declarations (IsMember G.declarations) (Called None member) (member_named member.text S.context.members) m
-        (s.own blocks member.text (two_true (is_in_member S.body) (is_persistent S.class) (own p.0)).1) p.1
+        seen : (m : Member) → P × (member_named member.text S.context.members ≡ Some m) → (k : Member) × (Called None member ≡ Some k) × Callee G.declarations m k × IsMember G.declarations m
+        seen m p =
+            callee_seen G.declarations (IsMember G.declarations) (Called None member) (member_named member.text S.context.members) m
+            (s.own blocks member.text (two_true (is_in_member S.body) (is_persistent S.class) (own p.0)).1) p.1
 
   -- ---- on a target
 
@@ -108,12 +108,14 @@ module _ (G : Frame) (S : Setting) (s : Sound G S) (blocks : List (List Declared
         × ClassOf G.declarations spot.type (target_shape (here G S blocks) t)
     class_seen spot p =
         let d = (p.1).declared in
-        let e = (p.1).shape in
-        (d, e,
-        subst (λ w. ClassOf G.declarations w (target_shape (here G S blocks) t)) (sym (p.1).fits.type)
-        (subst (λ k. ClassOf G.declarations d.type k) (sym e)
-        (class_at G.declarations d (shape_of G.declarations (Some d)) refl (p.1).fits.well.0
-        (subst (λ k. can_be_called k ≡ true) e (two_true _ _ ((ready p.0).1).0.call).0))))
+        let e = (p.1).shape in (
+          d,
+          e,
+          subst (λ w. ClassOf G.declarations w (target_shape (here G S blocks) t)) (sym (p.1).fits.type)
+              (subst (λ k. ClassOf G.declarations d.type k) (sym e)
+              (class_at G.declarations d (shape_of G.declarations (Some d)) refl (p.1).fits.well.0
+              (subst (λ k. can_be_called k ≡ true) e (two_true _ _ ((ready p.0).1).0.call).0))),
+        )
 
     abbrev Seen : Bool → Member → Type 0
     Seen regular m = (k : Member) × (Called (Some t) member ≡ Some k) × Callee G.declarations m k × MemberOf G.declarations regular m
@@ -185,9 +187,10 @@ module _ (G : Frame) (S : Setting) (s : Sound G S) (blocks : List (List Declared
   arguments_ready at receiver member ps r = (r.0, every_right Right (call_nodes at (here G S blocks) receiver member ps) (nodes_of_each (here G S blocks) ps) r.1)
 
   each_ready : (p : Phrase) (ps : Phrases) → ReadyEach (phrase.MorePhrases p ps) → Ready p × ReadyEach ps
-  each_ready p ps r =
-      ((r.0, every_left Right (phrase_nodes (here G S blocks) p) (nodes_of_each (here G S blocks) ps) r.1),
-      (r.0, every_right Right (phrase_nodes (here G S blocks) p) (nodes_of_each (here G S blocks) ps) r.1))
+  each_ready p ps r = (
+    (r.0, every_left Right (phrase_nodes (here G S blocks) p) (nodes_of_each (here G S blocks) ps) r.1),
+    (r.0, every_right Right (phrase_nodes (here G S blocks) p) (nodes_of_each (here G S blocks) ps) r.1),
+  )
 
   mutual
     pub passes_keeps : {f : Passes} {p : Phrase} → PassesOn f p → Keeps G vs (Ready p) Arg (ArgHas G.declarations (type_of (here G S blocks) p)) (f (inside G S))

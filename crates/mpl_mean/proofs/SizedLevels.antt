@@ -80,11 +80,15 @@ module _ (ds : List Declaration) (well : WellProgram ds) (replies : FinMap nat_c
         let made = (store_after o).calls in
         let fits = q.0.0 in
         let t = run_moves (regular_frame m made) (regular_setting fits.class m) (regular_sound m made fits) (map bare (formals_holding m.formals arguments)) m.body.statements in
-        let after = t.holds (store_with (formals_holding m.formals arguments) [] [] s.turns)
-            ((λ name.
-            formals_match ds 0 name m.formals arguments (state_members (Some fits.class)) None q.0.1 (fits.well).0.0
-            (subst (λ fields. PartFits ds 0 (first_named name (declared_fields InState fields)) None) (sym fits.stateless) tt), (fits.well).0.1),
-            (refl, formals_fit ds m.formals arguments q.0.1, record { state = refl; calls = tt; result = tt })) (front_itself made) in
+        let after = t.holds (store_with (formals_holding m.formals arguments) [] [] s.turns) (
+          (
+            λ name.
+                formals_match ds 0 name m.formals arguments (state_members (Some fits.class)) None q.0.1 (fits.well).0.0
+                (subst (λ fields. PartFits ds 0 (first_named name (declared_fields InState fields)) None) (sym fits.stateless) tt),
+            (fits.well).0.1,
+          ),
+          (refl, formals_fit ds m.formals arguments q.0.1, record { state = refl; calls = tt; result = tt }),
+        ) (front_itself made) in
         held s q (store_of o).turns (member_end m o) (end_has m o (rest_of m made _ (map bare (formals_holding m.formals arguments)) (λ ws. Unit {0}) o after));
   } where
     grown : (s : Store) (n : ℕ) (e : BodyEnd × BodyResult) → IsFront s.calls (store_after (back_with n e s)).calls

@@ -42,22 +42,22 @@ first_new : (name : List ℕ) (d : Declared) (block others formals state : List 
 first_new name d [] others formals state h = refl
 first_new name d (c ∷ block) others formals state h =
     chosen (bytes_eq c.name name) (bytes_eq d.name name) refl refl (first_new name d block others formals state (or_false (bytes_eq d.name c.name) _ h).1) where
-  or_false : (a b : Bool) → (a || b) ≡ false → (a ≡ false) × (b ≡ false)
-  or_false true b e = absurd cc
-  or_false false b e = (refl, e)
+      or_false : (a b : Bool) → (a || b) ≡ false → (a ≡ false) × (b ≡ false)
+      or_false true b e = absurd cc
+      or_false false b e = (refl, e)
 
-  clash : bytes_eq c.name name ≡ true → bytes_eq d.name name ≡ true → ⊥
-  clash i j =
-      let e : bytes_eq d.name c.name ≡ true = subst (λ w. bytes_eq d.name w ≡ true) (bytes_same d.name name j ∙ sym (bytes_same c.name name i)) (bytes_itself d.name) in
-      true≢false (sym e ∙ (or_false (bytes_eq d.name c.name) _ h).0)
+      clash : bytes_eq c.name name ≡ true → bytes_eq d.name name ≡ true → ⊥
+      clash i j =
+          let e : bytes_eq d.name c.name ≡ true = subst (λ w. bytes_eq d.name w ≡ true) (bytes_same d.name name j ∙ sym (bytes_same c.name name i)) (bytes_itself d.name) in
+          true≢false (sym e ∙ (or_false (bytes_eq d.name c.name) _ h).0)
 
-  chosen : (a b : Bool) → bytes_eq c.name name ≡ a → bytes_eq d.name name ≡ b
-      → first_named name ((((block ++ d ∷ []) ++ others) ++ formals) ++ state) ≡ (if bytes_eq d.name name then Some d else first_named name (((block ++ others) ++ formals) ++ state))
-      → (if a then Some c else first_named name ((((block ++ d ∷ []) ++ others) ++ formals) ++ state))
-      ≡ (if b then Some d else (if a then Some c else first_named name (((block ++ others) ++ formals) ++ state)))
-  chosen true true i j k = absurd (clash i j)
-  chosen true false i j k = refl
-  chosen false b i j k = k ∙ ap (λ b. if b then Some d else first_named name (((block ++ others) ++ formals) ++ state)) j
+      chosen : (a b : Bool) → bytes_eq c.name name ≡ a → bytes_eq d.name name ≡ b
+          → first_named name ((((block ++ d ∷ []) ++ others) ++ formals) ++ state) ≡ (if bytes_eq d.name name then Some d else first_named name (((block ++ others) ++ formals) ++ state))
+          → (if a then Some c else first_named name ((((block ++ d ∷ []) ++ others) ++ formals) ++ state))
+          ≡ (if b then Some d else (if a then Some c else first_named name (((block ++ others) ++ formals) ++ state)))
+      chosen true true i j k = absurd (clash i j)
+      chosen true false i j k = refl
+      chosen false b i j k = k ∙ ap (λ b. if b then Some d else first_named name (((block ++ others) ++ formals) ++ state)) j
 
 -- a variable in the store for what is declared
 abbrev Variables : Declared → Variable → Type 0
@@ -67,9 +67,9 @@ place_more : (ds : List Declaration) (total : ℕ) (name : List ℕ) (d : Declar
     → PlaceFits ds total o u part → PlaceFits ds total (if bytes_eq d.name name then Some d else o) (if bytes_eq v.name name then Some v else u) part
 place_more ds total name d v o u part h w p =
     subst (λ b. PlaceFits ds total (if bytes_eq d.name name then Some d else o) (if b then Some v else u) part) (ap (λ n. bytes_eq n name) (sym h.0)) (chosen (bytes_eq d.name name)) where
-  chosen : (b : Bool) → PlaceFits ds total (if b then Some d else o) (if b then Some v else u) part
-  chosen true = (h.1, h.2, w)
-  chosen false = p
+      chosen : (b : Bool) → PlaceFits ds total (if b then Some d else o) (if b then Some v else u) part
+      chosen true = (h.1, h.2, w)
+      chosen false = p
 
 -- a local behind its declarator
 matches_more : (G : Frame) (S : Setting) (blocks : List (List Declared)) (vs : List Variable) (d : Declared) (v : Variable) → Variables d v → WellDeclared G.declarations d
@@ -81,9 +81,9 @@ matches_more G S (block ∷ []) vs d v h w n m = λ name.
     subst (λ o. PlaceFits G.declarations G.state_words o (variable_named name (v ∷ vs)) (part_named name S.context.state))
     (sym (first_new name d block [] S.formals (state_members S.class) new))
     (place_more G.declarations G.state_words name d v (variable_of (here G S (block ∷ [])) name) (variable_named name vs) (part_named name S.context.state) h w (m name)) where
-  left_false : (a b : Bool) → (a || b) ≡ false → a ≡ false
-  left_false true b e = e
-  left_false false b e = refl
+      left_false : (a b : Bool) → (a || b) ≡ false → a ≡ false
+      left_false true b e = e
+      left_false false b e = refl
 matches_more G S (block ∷ outer ∷ others) vs d v h w n m = λ name.
     subst (λ o. PlaceFits G.declarations G.state_words o (variable_named name (v ∷ vs)) (part_named name S.context.state))
     (sym (first_new name d block (flat_map (λ block. block) (outer ∷ others)) S.formals (state_members S.class) n))

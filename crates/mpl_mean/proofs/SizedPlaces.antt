@@ -155,13 +155,15 @@ field_spot G S blocks vs well variable field (Some d) (Some spot) i j k h = shap
       let f = which (first_named field (declared_fields InStruct st.fields)) (subst (λ m. meant_has_field field m ≡ true) st.meant k) in
       let parts : parts_of_type G.declarations spot.type ≡ parts_of G.declarations st.fields = ap (parts_of_type G.declarations) h.type ∙ st.parts in
       let total : words_of_parts (parts_of G.declarations st.fields) ≡ spot.words =
-          struct_words well 0 st.fields st.well ∙ (sym st.words ∙ (ap (λ n. words_of G.declarations d.type (dimension_of n)) (sym v.0) ∙ sym h.words)) in
+      struct_words well 0 st.fields st.well ∙ (sym st.words ∙ (ap (λ n. words_of G.declarations d.type (dimension_of n)) (sym v.0) ∙ sym h.words)) in
       let part : PartFits G.declarations (words_of_parts (parts_of G.declarations st.fields)) (Some f.0) (part_named field (parts_of G.declarations st.fields)) =
-          subst (λ o. PartFits G.declarations (words_of_parts (parts_of G.declarations st.fields)) o (part_named field (parts_of G.declarations st.fields))) f.1
-          (parts_fit G.declarations (words_of_parts (parts_of G.declarations st.fields)) field InStruct 0 st.fields st.well (omega arith)) in
-      (f.0, ap (shape_of_field G.declarations field) st.meant ∙ ap (shape_of G.declarations) f.1,
-      field_part G.declarations G.state_words vs spot d f.0 (part_named field (parts_of_type G.declarations spot.type)) h (words_of_parts (parts_of G.declarations st.fields)) total
-      (subst (λ ps. PartFits G.declarations (words_of_parts (parts_of G.declarations st.fields)) (Some f.0) (part_named field ps)) (sym parts) part))
+      subst (λ o. PartFits G.declarations (words_of_parts (parts_of G.declarations st.fields)) o (part_named field (parts_of G.declarations st.fields))) f.1
+      (parts_fit G.declarations (words_of_parts (parts_of G.declarations st.fields)) field InStruct 0 st.fields st.well (omega arith)) in (
+        f.0,
+        ap (shape_of_field G.declarations field) st.meant ∙ ap (shape_of G.declarations) f.1,
+        field_part G.declarations G.state_words vs spot d f.0 (part_named field (parts_of_type G.declarations spot.type)) h (words_of_parts (parts_of G.declarations st.fields)) total
+            (subst (λ ps. PartFits G.declarations (words_of_parts (parts_of G.declarations st.fields)) (Some f.0) (part_named field ps)) (sym parts) part),
+      )
   shaped (Some (OneValue OfInt)) e i j k = absurd cc
   shaped (Some (OneValue OfBool)) e i j k = absurd cc
   shaped (Some (OneValue (OfClass n))) e i j k = absurd cc
@@ -175,24 +177,24 @@ pub spot_keeps : (G : Frame) (S : Setting) (well : WellProgram G.declarations) (
 spot_keeps G S well blocks vs {P} (target.Variable at name) h m n r =
     look_keeps G vs name.text (λ v. h (spot_of_name (inside G S) v name.text))
     (λ v. from_premise G vs (λ p. (p.0, right v p)) (r (spot_of_name (inside G S) v name.text))) where
-  right : (v : Option Variable) → P × FoundAs G.declarations (variable_named name.text vs) name.text v → SpotRight G S blocks vs (target.Variable at name) (spot_of_name (inside G S) v name.text)
-  right v p =
-      let d = which (variable_of (here G S blocks) name.text) (n p.0).0.known in
-      record {
-        declared = d.0;
-        shape = ap (shape_of G.declarations) d.1;
-        fits = subst (λ d. SpotMaybe G.declarations G.state_words vs d (spot_of_name (inside G S) v name.text)) d.1 (name_spot G S blocks vs name.text v (m p.0) p.1);
-      }
+      right : (v : Option Variable) → P × FoundAs G.declarations (variable_named name.text vs) name.text v → SpotRight G S blocks vs (target.Variable at name) (spot_of_name (inside G S) v name.text)
+      right v p =
+          let d = which (variable_of (here G S blocks) name.text) (n p.0).0.known in
+          record {
+            declared = d.0;
+            shape = ap (shape_of G.declarations) d.1;
+            fits = subst (λ d. SpotMaybe G.declarations G.state_words vs d (spot_of_name (inside G S) v name.text)) d.1 (name_spot G S blocks vs name.text v (m p.0) p.1);
+          }
 spot_keeps G S well blocks vs {P} (target.Field at name field) h m n r =
     look_keeps G vs name.text (λ v. h (field_of_spot (inside G S) field.text (spot_of_name (inside G S) v name.text)))
     (λ v. from_premise G vs (λ p. (p.0, right v p)) (r (field_of_spot (inside G S) field.text (spot_of_name (inside G S) v name.text)))) where
-  right : (v : Option Variable) → P × FoundAs G.declarations (variable_named name.text vs) name.text v
-      → SpotRight G S blocks vs (target.Field at name field) (field_of_spot (inside G S) field.text (spot_of_name (inside G S) v name.text))
-  right v p =
-      let nodes = n p.0 in
-      let f = field_spot G S blocks vs well name.text field.text (variable_of (here G S blocks) name.text) (spot_of_name (inside G S) v name.text) nodes.0.known nodes.1.0.of_struct nodes.1.1.0.known
+      right : (v : Option Variable) → P × FoundAs G.declarations (variable_named name.text vs) name.text v
+          → SpotRight G S blocks vs (target.Field at name field) (field_of_spot (inside G S) field.text (spot_of_name (inside G S) v name.text))
+      right v p =
+          let nodes = n p.0 in
+          let f = field_spot G S blocks vs well name.text field.text (variable_of (here G S blocks) name.text) (spot_of_name (inside G S) v name.text) nodes.0.known nodes.1.0.of_struct nodes.1.1.0.known
           (name_spot G S blocks vs name.text v (m p.0) p.1) in
-      record { declared = f.0; shape = f.1; fits = f.2 }
+          record { declared = f.0; shape = f.1; fits = f.2 }
 
 -- ---- reading and storing
 

@@ -82,9 +82,10 @@ names_well : (here : Here) (role : Role) (t : TypeName) (earlier : List (List �
     → ((dimension : Option Dimension) → is_some (shape_of_meant role dimension (meant here.declarations t)) ≡ true) → AllRight (field_name_nodes here t earlier names)
     → Every (WellDeclared here.declarations) (map (λ (name : FieldName). record { role = role; name = name.name.text; type = t; dimension = name.dimension }) names)
 names_well here role t earlier [] h r = tt
-names_well here role t earlier (n ∷ names) h r =
-    ((h n.dimension, dimension_element here t n.dimension (every_left Right (dimension_nodes here t n.dimension) _ r.1)),
-    names_well here role t (earlier ++ n.name.text ∷ []) names h (every_right Right (dimension_nodes here t n.dimension) _ r.1))
+names_well here role t earlier (n ∷ names) h r = (
+  (h n.dimension, dimension_element here t n.dimension (every_left Right (dimension_nodes here t n.dimension) _ r.1)),
+  names_well here role t (earlier ++ n.name.text ∷ []) names h (every_right Right (dimension_nodes here t n.dimension) _ r.1),
+)
 
 fields_well : (here : Here) (earlier : List (List ℕ)) (fields : List Field) → AllRight (fields_nodes here earlier fields) → Every (WellDeclared here.declarations) (declared_fields InStruct fields)
 fields_well here earlier [] r = tt
@@ -97,9 +98,10 @@ fields_well here earlier (field ∷ fields) r =
 formals_well : (here : Here) (before : ℕ) (earlier : List (List ℕ)) (formals : List Formal) → AllRight (formal_nodes here before earlier formals) → Every (WellDeclared here.declarations) (declared_formals formals)
 formals_well here before earlier [] r = tt
 formals_well here before earlier (formal ∷ formals) r =
-    let type_right = r.1.1.0 in
-    ((formal_shape (meant here.declarations formal.type_name) type_right.known type_right.stands, tt),
-    formals_well here (before + 1) (earlier ++ formal.name.text ∷ []) formals r.1.1.1)
+    let type_right = r.1.1.0 in (
+      (formal_shape (meant here.declarations formal.type_name) type_right.known type_right.stands, tt),
+      formals_well here (before + 1) (earlier ++ formal.name.text ∷ []) formals r.1.1.1,
+    )
 
 result_well : (here : Here) (result : ResultType) → AllRight (result_nodes result here) → WellResult here.declarations result
 result_well here (Void at) r = tt
@@ -128,14 +130,16 @@ items_well ds class before all (item.OfField at field ∷ items) r i =
     (tt, items_well ds class (record before { names = before.names ++ field_names field }) all items (every_right Right (field_nodes (in_the_class ds class) InState before.names field) _ r.1) i)
 items_well ds class before all (item.Member at result name formals body ∷ items) r i =
     let h = in_the_class ds class in
-    let signature = every_left Right (result_nodes result h ++ formal_nodes h 0 [] (formals_of formals)) _ r.1.1 in
-    (((formals_well h 0 [] (formals_of formals) (every_right Right (result_nodes result h) _ signature), i.0.1), result_well h result (every_left Right (result_nodes result h) _ signature)),
-    items_well ds class (record before { names = before.names ++ name.text ∷ []; members = before.members + 1 }) all items (every_right Right (result_nodes result h ++ formal_nodes h 0 [] (formals_of formals)) _ r.1.1) i.1)
+    let signature = every_left Right (result_nodes result h ++ formal_nodes h 0 [] (formals_of formals)) _ r.1.1 in (
+      ((formals_well h 0 [] (formals_of formals) (every_right Right (result_nodes result h) _ signature), i.0.1), result_well h result (every_left Right (result_nodes result h) _ signature)),
+      items_well ds class (record before { names = before.names ++ name.text ∷ []; members = before.members + 1 }) all items (every_right Right (result_nodes result h ++ formal_nodes h 0 [] (formals_of formals)) _ r.1.1) i.1,
+    )
 items_well ds class before all (item.Select at line entries ∷ items) r i =
-    let h = in_the_class ds class in
-    (tt,
-    items_well ds class (record before { selects = before.selects + 1 }) all items (every_right Right (entry_nodes h 0 entries) _ r.1.1)
-    (every_right InsideRight (flat_map (λ (entry : Entry). guards_of_entry h all entry.member entry.guard) entries) _ i))
+    let h = in_the_class ds class in (
+      tt,
+      items_well ds class (record before { selects = before.selects + 1 }) all items (every_right Right (entry_nodes h 0 entries) _ r.1.1)
+          (every_right InsideRight (flat_map (λ (entry : Entry). guards_of_entry h all entry.member entry.guard) entries) _ i),
+    )
 items_well ds class before all (item.Public at ∷ items) r i = (tt, items_well ds class before all items r i)
 items_well ds class before all (item.Private at ∷ items) r i = (tt, items_well ds class before all items r i)
 items_well ds class before all (item.Empty at ∷ items) r i = (tt, items_well ds class before all items r i)
@@ -190,9 +194,11 @@ declaration_well ds before (declaration.Class at line kind name items) a r i =
     let class = surrounding kind name items in
     (items_well ds class _ items items r i, state_well ds class _ items r, stateless ds class _ items r)
 declaration_well ds before (declaration.Function at result name formals body) a r i =
-    let d = declaration.Function at result name formals body in
-    ((formals_well (at_top ds) 0 [] (formals_of formals) r.1, i.0.1), result_value (meant ds result) r.0.known r.0.stands,
-    main_well (is_main name.text) name.text (formals_of formals) (is_int_type result) refl (main_asks (is_main name.text) d a.main))
+    let d = declaration.Function at result name formals body in (
+      (formals_well (at_top ds) 0 [] (formals_of formals) r.1, i.0.1),
+      result_value (meant ds result) r.0.known r.0.stands,
+      main_well (is_main name.text) name.text (formals_of formals) (is_int_type result) refl (main_asks (is_main name.text) d a.main),
+    )
 
 declarations_well : (ds : List Declaration) (before : ℕ) (earlier : List (List ℕ)) (some : List Declaration) → AllRight (declaration_nodes (at_top ds) before earlier some)
     → Every InsideRight (flat_map (inside_declaration (at_top ds)) some) → NamesDiffer earlier some × Every (WellDeclaration ds) some
@@ -200,9 +206,10 @@ declarations_well ds before earlier [] r i = (tt, tt)
 declarations_well ds before earlier (d ∷ some) r i =
     let name = (declared_name d).text in
     let others = declarations_well ds (before + 1) (earlier ++ name ∷ []) some (every_right Right (parts_nodes (at_top ds) d) _ r.1.1)
-        (every_right InsideRight (inside_declaration (at_top ds) d) (flat_map (inside_declaration (at_top ds)) some) i) in
-    ((not_true (list_any (bytes_eq name) earlier) r.1.0.new, others.0),
-    (declaration_well ds before d r.0 (every_left Right (parts_nodes (at_top ds) d) _ r.1.1) (every_left InsideRight (inside_declaration (at_top ds) d) _ i), others.1))
+    (every_right InsideRight (inside_declaration (at_top ds) d) (flat_map (inside_declaration (at_top ds)) some) i) in (
+      (not_true (list_any (bytes_eq name) earlier) r.1.0.new, others.0),
+      (declaration_well ds before d r.0 (every_left Right (parts_nodes (at_top ds) d) _ r.1.1) (every_left InsideRight (inside_declaration (at_top ds) d) _ i), others.1),
+    )
 
 pub well_program : (p : Program) → is_typed p ≡ true → WellProgram p.declarations
 well_program p e =

@@ -86,27 +86,29 @@ hold_all p (r ∷ some) e = chosen (r.holds p.here p.node) refl (hold_all p some
 all_right : (ps : List Placed) → is_empty (failures_among rules ps) ≡ true → AllRight ps
 all_right [] e = tt
 all_right (p ∷ ps) e =
-    let h = hold_all p rules (empty_left (failures_at rules p) (failures_among rules ps) e) in
-    (record {
-      known = h.0;
-      new = h.1.0;
-      main = h.1.1.0;
-      stands = h.1.1.1.0;
-      dimension = h.1.1.1.1.0;
-      state = h.1.1.1.1.1.1.1.1.0;
-      operands = h.1.1.1.1.1.1.1.1.1.1.1.1.0;
-      index = h.1.1.1.1.1.1.1.1.1.1.1.1.1.0;
-      place = h.1.1.1.1.1.1.1.1.1.1.1.1.1.1.0;
-      of_struct = h.1.1.1.1.1.1.1.1.1.1.1.1.1.1.1.0;
-      right_side = h.1.1.1.1.1.1.1.1.1.1.1.1.1.1.1.1.0;
-      plain = h.1.1.1.1.1.1.1.1.1.1.1.1.1.1.1.1.1.0;
-      call = h.1.1.1.1.1.1.1.1.1.1.1.1.1.1.1.1.1.1.0;
-      passed = h.1.1.1.1.1.1.1.1.1.1.1.1.1.1.1.1.1.1.1.0;
-      in_place = h.1.1.1.1.1.1.1.1.1.1.1.1.1.1.1.1.1.1.1.1.0;
-      own = h.1.1.1.1.1.1.1.1.1.1.1.1.1.1.1.1.1.1.1.1.1.0;
-      rtf = h.1.1.1.1.1.1.1.1.1.1.1.1.1.1.1.1.1.1.1.1.1.1.1.0;
-      return = h.1.1.1.1.1.1.1.1.1.1.1.1.1.1.1.1.1.1.1.1.1.1.1.1.1.0;
-    }, all_right ps (empty_right (failures_at rules p) (failures_among rules ps) e))
+    let h = hold_all p rules (empty_left (failures_at rules p) (failures_among rules ps) e) in (
+      record {
+        known = h.0;
+        new = h.1.0;
+        main = h.1.1.0;
+        stands = h.1.1.1.0;
+        dimension = h.1.1.1.1.0;
+        state = h.1.1.1.1.1.1.1.1.0;
+        operands = h.1.1.1.1.1.1.1.1.1.1.1.1.0;
+        index = h.1.1.1.1.1.1.1.1.1.1.1.1.1.0;
+        place = h.1.1.1.1.1.1.1.1.1.1.1.1.1.1.0;
+        of_struct = h.1.1.1.1.1.1.1.1.1.1.1.1.1.1.1.0;
+        right_side = h.1.1.1.1.1.1.1.1.1.1.1.1.1.1.1.1.0;
+        plain = h.1.1.1.1.1.1.1.1.1.1.1.1.1.1.1.1.1.0;
+        call = h.1.1.1.1.1.1.1.1.1.1.1.1.1.1.1.1.1.1.0;
+        passed = h.1.1.1.1.1.1.1.1.1.1.1.1.1.1.1.1.1.1.1.0;
+        in_place = h.1.1.1.1.1.1.1.1.1.1.1.1.1.1.1.1.1.1.1.1.0;
+        own = h.1.1.1.1.1.1.1.1.1.1.1.1.1.1.1.1.1.1.1.1.1.0;
+        rtf = h.1.1.1.1.1.1.1.1.1.1.1.1.1.1.1.1.1.1.1.1.1.1.1.0;
+        return = h.1.1.1.1.1.1.1.1.1.1.1.1.1.1.1.1.1.1.1.1.1.1.1.1.1.0;
+      },
+      all_right ps (empty_right (failures_at rules p) (failures_among rules ps) e),
+    )
 
 pub typed_right : (p : Program) → is_typed p ≡ true → AllRight (nodes p)
 typed_right p e = all_right (nodes p) e

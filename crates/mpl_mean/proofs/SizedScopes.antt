@@ -32,11 +32,11 @@ pub then_moves : {G : Frame} {vs : List Variable} {P : Type 0} (Q R : List Varia
     → ((ws : List Variable) → Moves G ws (P × Q ws) R g) → Moves G vs P R (f >> g)
 then_moves {G} {vs} {P} Q R {f} {g} t r = then_triple G (λ s. P × Fits G vs s) (λ _ s. Moved G vs P Q s) (λ _ s. Moved G vs P R s) f (λ _. g) t
     (λ _. record { grows = (r vs).grows; holds = λ s q w. further q.1.0 (g s) ((r (q.1.0 ++ vs)).holds s ((q.0, q.1.1), q.1.2) w) }) where
-  further : (added : List Variable) → (o : Outcome (Unit {0})) → After G (λ _ s. Moved G (added ++ vs) (P × Q (added ++ vs)) R s) o → After G (λ _ s. Moved G vs P R s) o
-  further added (Goes a s) i =
-      (i.0.0, (i.1.0 ++ added, subst R (sym (append_assoc i.1.0 added vs)) i.1.1, subst (λ ws. Fits G ws s) (sym (append_assoc i.1.0 added vs)) i.1.2))
-  further added (Returns words s) i = i
-  further added (Ends e s) i = i
+      further : (added : List Variable) → (o : Outcome (Unit {0})) → After G (λ _ s. Moved G (added ++ vs) (P × Q (added ++ vs)) R s) o → After G (λ _ s. Moved G vs P R s) o
+      further added (Goes a s) i =
+          (i.0.0, (i.1.0 ++ added, subst R (sym (append_assoc i.1.0 added vs)) i.1.1, subst (λ ws. Fits G ws s) (sym (append_assoc i.1.0 added vs)) i.1.2))
+      further added (Returns words s) i = i
+      further added (Ends e s) i = i
 
 -- a value, and then what is done with it
 pub keeps_then_moves : {G : Frame} {vs : List Variable} {P : Type 0} {A : Type 0} (V : A → Type 0) (Q : List Variable → Type 0) {f : Doing A} {h : A → Effect} → Keeps G vs P A V f

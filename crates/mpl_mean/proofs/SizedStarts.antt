@@ -97,9 +97,9 @@ fresh_of : (name other : List ℕ) (earlier : List (List ℕ)) → list_any (byt
 fresh_of name other earlier e =
     let two = both (list_any (bytes_eq name) earlier) (bytes_eq name other || false) (sym (list_any-append (bytes_eq name) earlier (other ∷ [])) ∙ e) in
     (two.0, other_bytes name other (both (bytes_eq name other) false two.1).0) where
-  both : (a b : Bool) → (a || b) ≡ false → (a ≡ false) × (b ≡ false)
-  both true b e = absurd cc
-  both false b e = (refl, e)
+      both : (a b : Bool) → (a || b) ≡ false → (a ≡ false) × (b ≡ false)
+      both true b e = absurd cc
+      both false b e = (refl, e)
 
 some_pair : {a b : Class × Member} → ◌≡◌ {A = Option (Class × Member)} (Some a) (Some b) → a ≡ b
 some_pair e = cc
@@ -121,33 +121,33 @@ class_numbered whole k found number id earlier (declaration.Struct at line struc
     }
 class_numbered whole k found number id earlier (declaration.Class at line kind class items ∷ ds) n w e =
     chosen (member_numbered k (members_from id items)) refl e (class_numbered whole k found (number + 1) (id + length (members_from id items)) (earlier ++ class.text ∷ []) ds n.1 w.1) where
-  chosen : (o : Option Member) → member_numbered k (members_from id items) ≡ o
-      → member_or (class_at number id kind class items) o (member_of_classes k (classes_from (number + 1) (id + length (members_from id items)) ds)) ≡ Some found
-      → (member_of_classes k (classes_from (number + 1) (id + length (members_from id items)) ds) ≡ Some found
-      → ClassNumbered whole found (earlier ++ class.text ∷ []) (number + 1) (id + length (members_from id items)) ds)
-      → ClassNumbered whole found earlier number id (declaration.Class at line kind class items ∷ ds)
-  chosen (Some m) i e h =
-      subst (λ found. ClassNumbered whole found earlier number id (declaration.Class at line kind class items ∷ ds)) (some_pair e) (record {
-        items = items;
-        meant = ap (λ b. if b then AClass class.text (is_regular kind) items else meant_by class.text ds) (bytes_itself class.text);
-        named = ap (λ b. if b then Some (class_at number id kind class items) else class_named class.text (classes_from (number + 1) (id + length (members_from id items)) ds)) (bytes_itself class.text);
-        state = refl;
-        right = w.0;
-        member = number_well whole _ k id items m w.0.0 i;
-        fresh = n.0;
-      })
-  chosen None i e h =
-      let c = h e in
-      let f = fresh_of (found.0).name class.text earlier c.fresh in
-      record {
-        items = c.items;
-        meant = ap (λ b. if b then AClass (found.0).name (is_regular kind) items else meant_by (found.0).name ds) f.1 ∙ c.meant;
-        named = ap (λ b. if b then Some (class_at number id kind class items) else class_named (found.0).name (classes_from (number + 1) (id + length (members_from id items)) ds)) f.1 ∙ c.named;
-        state = c.state;
-        right = c.right;
-        member = c.member;
-        fresh = f.0;
-      }
+      chosen : (o : Option Member) → member_numbered k (members_from id items) ≡ o
+          → member_or (class_at number id kind class items) o (member_of_classes k (classes_from (number + 1) (id + length (members_from id items)) ds)) ≡ Some found
+          → (member_of_classes k (classes_from (number + 1) (id + length (members_from id items)) ds) ≡ Some found
+          → ClassNumbered whole found (earlier ++ class.text ∷ []) (number + 1) (id + length (members_from id items)) ds)
+          → ClassNumbered whole found earlier number id (declaration.Class at line kind class items ∷ ds)
+      chosen (Some m) i e h =
+          subst (λ found. ClassNumbered whole found earlier number id (declaration.Class at line kind class items ∷ ds)) (some_pair e) (record {
+            items = items;
+            meant = ap (λ b. if b then AClass class.text (is_regular kind) items else meant_by class.text ds) (bytes_itself class.text);
+            named = ap (λ b. if b then Some (class_at number id kind class items) else class_named class.text (classes_from (number + 1) (id + length (members_from id items)) ds)) (bytes_itself class.text);
+            state = refl;
+            right = w.0;
+            member = number_well whole _ k id items m w.0.0 i;
+            fresh = n.0;
+          })
+      chosen None i e h =
+          let c = h e in
+          let f = fresh_of (found.0).name class.text earlier c.fresh in
+          record {
+            items = c.items;
+            meant = ap (λ b. if b then AClass (found.0).name (is_regular kind) items else meant_by (found.0).name ds) f.1 ∙ c.meant;
+            named = ap (λ b. if b then Some (class_at number id kind class items) else class_named (found.0).name (classes_from (number + 1) (id + length (members_from id items)) ds)) f.1 ∙ c.named;
+            state = c.state;
+            right = c.right;
+            member = c.member;
+            fresh = f.0;
+          }
 class_numbered whole k found number id earlier (declaration.Function at result function formals body ∷ ds) n w e =
     let h = class_numbered whole k found number id (earlier ++ function.text ∷ []) ds n.1 w.1 e in
     record {

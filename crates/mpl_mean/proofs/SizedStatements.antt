@@ -104,10 +104,11 @@ module _ (G : Frame) (S : Setting) (s : Sound G S) where
     prints_each : (es : List Expression)
         → AllZip (λ (e : Expression) f. Keeps G vs (Matches G S blocks vs × AllRight (print_walk (map phrase_of es) (here G S blocks)).nodes) Value (λ _. Unit {0}) f) es (map (λ e. value_of e (inside G S)) es)
     prints_each [] = tt
-    prints_each (e ∷ es) =
-        (so_keeps G vs (λ p. (p.0, every_left Right (phrase_nodes (here G S blocks) (phrase_of e)) (print_walk (map phrase_of es) (here G S blocks)).nodes (p.1).1)) (λ a p h. tt)
-        (value_keeps G S s blocks vs (expression_means e)),
-        zip_from G vs (λ e v. Unit {0}) (λ p. (p.0, every_right Right (phrase_nodes (here G S blocks) (phrase_of e)) (print_walk (map phrase_of es) (here G S blocks)).nodes (p.1).1)) es _ (prints_each es))
+    prints_each (e ∷ es) = (
+      so_keeps G vs (λ p. (p.0, every_left Right (phrase_nodes (here G S blocks) (phrase_of e)) (print_walk (map phrase_of es) (here G S blocks)).nodes (p.1).1)) (λ a p h. tt)
+          (value_keeps G S s blocks vs (expression_means e)),
+      zip_from G vs (λ e v. Unit {0}) (λ p. (p.0, every_right Right (phrase_nodes (here G S blocks) (phrase_of e)) (print_walk (map phrase_of es) (here G S blocks)).nodes (p.1).1)) es _ (prints_each es),
+    )
 
     loop_keeps : {P : Type 0} (test : Expression) (h : Effect) → (P → Matches G S blocks vs × AllRight (phrase_nodes (here G S blocks) (phrase_of test))) → Keeps-Effect vs P h → Keeps-Effect vs P (loop (inside G S) test h)
     loop_keeps test h p r = loops_keep G vs (S.context.turns + 1) S.context.turns (from_premise G vs p (value_keeps G S s blocks vs (expression_means test))) r
@@ -144,9 +145,10 @@ module _ (G : Frame) (S : Setting) (s : Sound G S) where
   -- the nodes behind a first statement
   behind_first : (blocks : List (List Declared)) (a : Action) (actions : Actions) → AllRight (actions_walk (action.MoreActions a actions) (here G S blocks)).nodes
       → AllRight (action_walk a (here G S blocks)).nodes × AllRight (actions_walk actions (here G S (blocks_after a blocks))).nodes
-  behind_first blocks a actions r =
-      (every_left Right (action_walk a (here G S blocks)).nodes _ r,
-      subst (λ h. AllRight (actions_walk actions h).nodes) (after_is G S a blocks) (every_right Right (action_walk a (here G S blocks)).nodes _ r))
+  behind_first blocks a actions r = (
+    every_left Right (action_walk a (here G S blocks)).nodes _ r,
+    subst (λ h. AllRight (actions_walk actions h).nodes) (after_is G S a blocks) (every_right Right (action_walk a (here G S blocks)).nodes _ r),
+  )
 
   -- a loop behind its start
   abbrev LoopReady : List (List Declared) → List Variable → Expression → Option Assignment → Action → Type 0
@@ -186,10 +188,11 @@ module _ (G : Frame) (S : Setting) (s : Sound G S) where
         (λ p. (p.0.0, every_left Right (action_walk a (here G S ([] ∷ blocks))).nodes _ (every_right Right (phrase_nodes (here G S blocks) (phrase_of test)) _ (p.0.1).1)))
         (acts_move ([] ∷ blocks) vs m))
         (scoped blocks vs b
-        (λ p.
-        (p.0.0,
-        every_right Right (action_walk a (here G S ([] ∷ blocks))).nodes (action_walk b (here G S ([] ∷ blocks))).nodes
-        (every_right Right (phrase_nodes (here G S blocks) (phrase_of test)) _ (p.0.1).1)))
+        (λ p. (
+          p.0.0,
+          every_right Right (action_walk a (here G S ([] ∷ blocks))).nodes (action_walk b (here G S ([] ∷ blocks))).nodes
+              (every_right Right (phrase_nodes (here G S blocks) (phrase_of test)) _ (p.0.1).1),
+        ))
         (acts_move ([] ∷ blocks) vs n))))
     acts_move blocks vs (repeats {a = a} test m) =
         still_moves (Matches G S blocks) (λ p. p.0)
@@ -202,10 +205,11 @@ module _ (G : Frame) (S : Setting) (s : Sound G S) where
         (scope_keeps (λ ws. Unit {0})
         (then_moves (λ ws. LoopReady inner ws test step a) (λ ws. Unit {0}) {f = statement.starts (inside G S) start} {g = loop (inside G S) test (in_scope (f (inside G S)) >> steps (inside G S) step)}
         (so_moves (Matches G S inner) (λ ws. LoopReady inner ws test step a) (λ p. (p.0, every_left Right (action_walk first (here G S ([] ∷ blocks))).nodes _ p.1))
-        (λ ws p q.
-        (q,
-        subst (λ h. AllRight (loop_nodes h (phrase_of test) (if_any (option_map assigns step)) a)) (after_is G S first ([] ∷ blocks))
-        (every_right Right (action_walk first (here G S ([] ∷ blocks))).nodes _ p.1)))
+        (λ ws p q. (
+          q,
+          subst (λ h. AllRight (loop_nodes h (phrase_of test) (if_any (option_map assigns step)) a)) (after_is G S first ([] ∷ blocks))
+              (every_right Right (action_walk first (here G S ([] ∷ blocks))).nodes _ p.1),
+        ))
         (start_moves ([] ∷ blocks) vs start))
         (λ ws.
         still_moves (λ ws. Unit {0}) (λ p. tt)

@@ -102,13 +102,8 @@ so_after G r (Goes a s) q = r a s q
 so_after G r (Returns words s) q = q
 so_after G r (Ends e s) q = q
 
-after_more : (G : Frame) {A : Type 0} (Q R : A → Store → Type 0) → ((a : A) (s : Store) → Q a s → R a s) → (o : Outcome A) → After G Q o → After G R o
-after_more G Q R r (Goes a s) q = r a s q
-after_more G Q R r (Returns words s) q = q
-after_more G Q R r (Ends e s) q = q
-
 pub concludes : (G : Frame) {A : Type 0} {P : Store → Type 0} {Q R : A → Store → Type 0} {f : Doing A} → ((a : A) (s : Store) → Q a s → R a s) → Triple G A P Q f → Triple G A P R f
-concludes G {A} {P} {Q} {R} {f} r t = record { grows = t.grows; holds = λ s p w. after_more G Q R r (f s) (t.holds s p w) }
+concludes G {A} {P} {Q} {R} {f} r t = record { grows = t.grows; holds = λ s p w. so_after G r (f s) (t.holds s p w) }
 
 -- ---- steps that keep the variables in scope
 
@@ -127,7 +122,7 @@ module _ (G : Frame) (vs : List Variable) where
   pub so_keeps : {P P' : Type 0} {A : Type 0} {V W : A → Type 0} {f : Doing A} → (P → P') → ((a : A) → P → V a → W a) → Keeps G vs P' A V f → Keeps G vs P A W f
   so_keeps {P} {P'} {A} {V} {W} {f} p r t = record {
     grows = t.grows;
-    holds = λ s q w. after_more G (λ a s. (P' × V a) × Fits G vs s) (λ a s. (P × W a) × Fits G vs s) (λ a s i. ((q.0, r a q.0 i.0.1), i.1)) (f s) (t.holds s (p q.0, q.1) w);
+    holds = λ s q w. so_after G (λ a s i. ((q.0, r a q.0 i.0.1), i.1)) (f s) (t.holds s (p q.0, q.1) w);
   }
 
   pub from_premise : {P P' : Type 0} {A : Type 0} {V : A → Type 0} {f : Doing A} → (P → P') → Keeps G vs P' A V f → Keeps G vs P A V f

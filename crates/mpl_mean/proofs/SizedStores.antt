@@ -1,5 +1,5 @@
 -- What is stored, declared, made and given keeps the sizes.
-use Rattle.std.proofs.Common.{◌≡◌, ℕ, zero, suc, ◌+◌, ◌≤◌, Bool, true, false, List, [], ◌∷◌, ◌++◌, length, map, take, drop, Option, Some, None, if◌then◌else◌, ℤ, refl, sym, ap, subst, ◌∙◌, arith}
+use Rattle.std.proofs.Common.{◌≡◌, ℕ, zero, suc, ◌+◌, ◌≤◌, Bool, true, false, List, [], ◌∷◌, ◌++◌, length, map, take, drop, Option, Some, if◌then◌else◌, ℤ, refl, sym, ap, subst, ◌∙◌, arith}
 use Rattle.std.proofs.lemmas.List.{length-append, length-drop, length-take-le}
 use Rattle.std.specs.Str.{bytes_eq}
 use Rattle.mpl_ast.specs.declared.program.Declaration.{Declaration}
@@ -26,23 +26,19 @@ words_at_long offset count words h = length-take-le count (drop offset words) (o
 
 pub with_words_long : (offset : ℕ) (new words : List ℤ) → offset + length new ≤ length words → length (with_words offset new words) ≡ length words
 with_words_long offset new words h =
-    omega (arith, length-append (take offset words) (new ++ drop (offset + length new) words), length-append new (drop (offset + length new) words), length-take-le offset words (omega arith),
-    length-drop (offset + length new) words)
+    omega (
+      arith,
+      length-append (take offset words) (new ++ drop (offset + length new) words),
+      length-append new (drop (offset + length new) words),
+      length-take-le offset words (omega arith),
+      length-drop (offset + length new) words,
+    )
 
 pub every_append : {A : Type 0} (P : A → Type 0) (xs ys : List A) → Every P xs → Every P ys → Every P (xs ++ ys)
 every_append P [] ys h k = k
 every_append P (x ∷ xs) ys h k = (h.0, every_append P xs ys h.1 k)
 
 -- ---- variables
-
--- the newest variable of a name is, but for what it holds, that of the bare ones
-pub named_bare : (name : List ℕ) (vs : List Variable) → variable_named name (map bare vs) ≡ elim (variable_named name vs) as (λ _. Option Variable) [ None ↦ None | Some v ↦ Some (bare v) ]
-named_bare name [] = refl
-named_bare name (v ∷ vs) = chosen (bytes_eq v.name name) (variable_named name (map bare vs)) (variable_named name vs) (named_bare name vs) where
-  chosen : (b : Bool) (x y : Option Variable) → x ≡ elim y as (λ _. Option Variable) [ None ↦ None | Some v ↦ Some (bare v) ]
-      → (if b then Some (bare v) else x) ≡ elim (if b then Some v else y) as (λ _. Option Variable) [ None ↦ None | Some v ↦ Some (bare v) ]
-  chosen true x y e = refl
-  chosen false x y e = e
 
 pub bare_holding : (name : List ℕ) (a : Arg) (vs : List Variable) → map bare (holding name a vs) ≡ map bare vs
 bare_holding name a [] = refl
@@ -70,10 +66,14 @@ module _ (G : Frame) (vs : List Variable) where
   pub hold_keeps : {P : Type 0} (name : List ℕ) (a : Arg) → (P → MayHold G.declarations name a vs) → Keeps G vs P (Unit {0}) (λ _. Unit {0}) (hold name a)
   hold_keeps name a m = record {
     grows = λ s. front_itself s.calls;
-    holds = λ s q w.
-        ((q.0, tt), (bare_holding name a s.variables ∙ q.1.0,
+    holds = λ s q w. (
+      (q.0, tt),
+      (
+        bare_holding name a s.variables ∙ q.1.0,
         holding_fits G.declarations name a s.variables (subst (λ vs. MayHold G.declarations name a vs) (sym q.1.0) (m q.0)) q.1.1,
-        q.1.2));
+        q.1.2,
+      ),
+    );
   }
 
   -- ---- the state, what is printed and what is read

@@ -70,11 +70,6 @@ abbrev pub HasSize : List Declaration → Option ValueType → ℕ → Type 0
 HasSize ds None n = ⊥
 HasSize ds (Some t) n = n ≡ size ds t
 
--- what is passed on with this type has so many words, if it is known
-abbrev pub PassesSize : List Declaration → Option ValueType → Type 0
-PassesSize ds None = ⊥
-PassesSize ds (Some t) = Unit {0}
-
 pub same_size : (ds : List Declaration) (a b : ValueType) → same_type a b ≡ true → size ds a ≡ size ds b
 same_size ds OfInt OfInt e = refl
 same_size ds OfInt OfBool e = absurd cc

@@ -92,16 +92,19 @@ module _ (G : Frame) (S : Setting) (well : WellProgram G.declarations) (blocks :
 
   variable_there : (name : List ℕ) → Matches G S blocks vs → is_some (variable_of (here G S blocks) name) ≡ true → (d : Declared) × (variable_of (here G S blocks) name ≡ Some d) × WellDeclared G.declarations d
   variable_there name m known =
-      let d = which (variable_of (here G S blocks) name) known in
-      (d.0, d.1, place_well G.declarations G.state_words d.0 (variable_named name vs) (part_named name S.context.state)
-      (subst (λ d. PlaceFits G.declarations G.state_words d (variable_named name vs) (part_named name S.context.state)) d.1 (m name)))
+      let d = which (variable_of (here G S blocks) name) known in (
+        d.0,
+        d.1,
+        place_well G.declarations G.state_words d.0 (variable_named name vs) (part_named name S.context.state)
+            (subst (λ d. PlaceFits G.declarations G.state_words d (variable_named name vs) (part_named name S.context.state)) d.1 (m name)),
+      )
 
   pub target_there : (t : Target) → Matches G S blocks vs → AllRight (target_nodes (here G S blocks) t) → There t
   target_there (target.Variable at name) m n = let d = variable_there name.text m n.0.known in (d.0, ap (shape_of G.declarations) d.1, d.2)
   target_there (target.Field at name field) m n =
       let d = variable_there name.text m n.0.known in
       let f = field_declared well field.text d.0 (shape_of G.declarations (Some d.0)) refl (d.2).0 (subst (λ o. is_struct (shape_of G.declarations o) ≡ true) d.1 n.1.0.of_struct)
-          (subst (λ o. has_field G.declarations field.text (shape_of G.declarations o) ≡ true) d.1 n.1.1.0.known) in
+      (subst (λ o. has_field G.declarations field.text (shape_of G.declarations o) ≡ true) d.1 n.1.1.0.known) in
       (f.0, ap (λ o. shape_behind_dot G.declarations field.text (shape_of G.declarations o)) d.1 ∙ f.1, f.2)
 
   sized_there : (t : Option ValueType) (n : ℕ) → HasSize G.declarations t n → is_some t ≡ true

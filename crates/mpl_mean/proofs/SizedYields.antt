@@ -110,16 +110,16 @@ module _ (ds : List Declaration) (well : WellProgram ds) (replies : FinMap nat_c
       let o = run main_context (statements_of f) (store_with [] start.state start.input 0) in
       let calls = (store_after o).calls in
       let t = run_moves (frame ds replies (length start.state) None calls (λ _. Unit {0})) (setting None InMain [] main_context)
-          (main_sound calls (subst (λ cs. Every (CallReplyFits ds replies) cs) (main_calls o) fit)) [] (statements_of f) in
+      (main_sound calls (subst (λ cs. Every (CallReplyFits ds replies) cs) (main_calls o) fit)) [] (statements_of f) in
       main_fits ds replies (length start.state) calls o
       (rest_after (frame ds replies (length start.state) None calls (λ _. Unit {0})) _ [] (λ ws. Unit {0}) o
       (t.holds (store_with [] start.state start.input 0) ((λ name. tt, right f e), (refl, tt, record { state = refl; calls = tt; result = tt })) (front_itself calls))) where
-    right : (f : Option Function) → function_named (codes "main") ds ≡ f
-        → AllRight (actions_walk (action.in_turn (map action_of (statements_of f))) (within ds None InMain [] ([] ∷ []))).nodes
-    right None e = tt
-    right (Some f) e =
-        let m = main_of ds f ds well.each e in
-        subst (λ formals. AllRight (actions_walk (action.in_turn (map action_of f.body.statements)) (within ds None InMain (declared_formals formals) ([] ∷ []))).nodes) m.1 m.0.1
+        right : (f : Option Function) → function_named (codes "main") ds ≡ f
+            → AllRight (actions_walk (action.in_turn (map action_of (statements_of f))) (within ds None InMain [] ([] ∷ []))).nodes
+        right None e = tt
+        right (Some f) e =
+            let m = main_of ds f ds well.each e in
+            subst (λ formals. AllRight (actions_walk (action.in_turn (map action_of f.body.statements)) (within ds None InMain (declared_formals formals) ([] ∷ []))).nodes) m.1 m.0.1
 
   -- ---- a member
 
@@ -175,10 +175,14 @@ module _ (ds : List Declaration) (well : WellProgram ds) (replies : FinMap nat_c
         let t = run_moves (member_frame calls) member_setting (member_sound calls (subst (λ (s : Store). Every (CallReplyFits ds replies) s.calls) (sym (same_after o)) fit) long) (map bare held) (found.1).body.statements in
         member_fits ds replies (length start.state) calls found.1 o
         (rest_after (member_frame calls) _ (map bare held) (λ ws. Unit {0}) o
-        (t.holds first
-        ((λ name.
-        formals_match ds (length start.state) name (found.1).formals words (state_members (Some (surrounding_of found.0 is.items))) (part_named name (parts_of ds (found.0).state)) split (is.member).0.0 (state_fits long name),
-        (is.member).0.1), (refl, formals_fit ds (found.1).formals words split, record { state = refl; calls = tt; result = tt })) (front_itself calls)))
+        (t.holds first (
+          (
+            λ name.
+                formals_match ds (length start.state) name (found.1).formals words (state_members (Some (surrounding_of found.0 is.items))) (part_named name (parts_of ds (found.0).state)) split (is.member).0.0 (state_fits long name),
+            (is.member).0.1,
+          ),
+          (refl, formals_fit ds (found.1).formals words split, record { state = refl; calls = tt; result = tt }),
+        ) (front_itself calls)))
 
   -- ---- every start
 

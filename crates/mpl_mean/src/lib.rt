@@ -6,8 +6,8 @@ mod laws;
 mod worked;
 
 pub use laws::{
-    more_replies_only_add, more_turns_change_nothing, refusals_are_least, seven_rules_are_enough, sizes_are_kept,
-    tokens_are_few,
+    more_replies_only_add, more_turns_change_nothing, refusals_are_least, seven_rules_are_enough,
+    sizes_are_kept, tokens_are_few,
 };
 pub use worked::{
     calls_have_their_yields, loops_have_their_turns, parts_have_their_order, replies_are_awaited,
