@@ -93,11 +93,11 @@ pub answer_keeps : (G : Frame) (vs : List Variable) {P : Type 0} (n : ℕ) (args
 answer_keeps G vs n args known = answer_of G vs n known (any_unknown args) (leftmost_trap args) args refl refl
 
 -- the words of each argument are those of its formal
-abbrev pub WordsFit : List Declaration → List Formal → List (List ℤ) → Type 0
-WordsFit ds = AllZip (λ formal words. length words ≡ words_of_formal ds formal)
+abbrev pub ListsFit : List Declaration → List Formal → List (List ℤ) → Type 0
+ListsFit ds = AllZip (λ formal words. length words ≡ words_of_formal ds formal)
 
 pub known_fit : (ds : List Declaration) (formals : List Formal) (args : List Arg) → ArgumentsFit ds formals args → any_unknown args ≡ false → leftmost_trap args ≡ None
-    → WordsFit ds formals (known_words args)
+    → ListsFit ds formals (known_words args)
 known_fit ds [] [] h i j = tt
 known_fit ds [] (a ∷ args) h i j = absurd h
 known_fit ds (formal ∷ formals) [] h i j = absurd h

@@ -15,7 +15,7 @@ use Rattle.mpl_mean.specs.Sizes.{ArgFits, ArgumentsFit, Every, words_of_formal}
 use Rattle.mpl_mean.specs.Types.{AClass, ABool, AnInt, AStruct, AsFormal, Meant, Nothing, ValueType, agree, declared_formals, meant, shape_of_meant, value_type}
 use Rattle.mpl_mean.specs.Typing.{all_agree, arguments_fit, formal_types}
 use Rattle.mpl_mean.specs.Values.{Value}
-use Rattle.mpl_mean.proofs.SizedAnswers.{WordsFit}
+use Rattle.mpl_mean.proofs.SizedAnswers.{ListsFit}
 use Rattle.mpl_mean.proofs.SizedClasses.{bytes_same}
 use Rattle.mpl_mean.proofs.SizedRules.{WellDeclaration, WellDeclared, WellRoutine}
 use Rattle.mpl_mean.proofs.SizedSettings.{PlainFits}
@@ -83,7 +83,7 @@ values_some ds (None ∷ ts) (v ∷ vs) h = absurd h.0
 values_some ds (Some t ∷ ts) (v ∷ vs) h = values_some ds ts vs h.1
 
 values_fit : (ds : List Declaration) (ts : List (Option ValueType)) (formals : List Formal) (vs : List Value) → AllZip (FormalHas ds) ts formals → AllZip (ValueHas ds) ts vs
-    → WordsFit ds formals (map (λ (value : Value). value.words) vs)
+    → ListsFit ds formals (map (λ (value : Value). value.words) vs)
 values_fit ds [] [] [] h k = tt
 values_fit ds [] [] (v ∷ vs) h k = absurd k
 values_fit ds [] (formal ∷ formals) vs h k = absurd h
@@ -94,7 +94,7 @@ values_fit ds (Some t ∷ ts) (formal ∷ formals) (v ∷ vs) h k = (k.0 ∙ h.0
 
 -- the words of values whose types fit
 pub words_fit : (ds : List Declaration) → WellProgram ds → (ts : List (Option ValueType)) (formals : List Formal) (vs : List Value) → AllZip (ValueHas ds) ts vs
-    → arguments_fit ts (formal_types ds formals) ≡ true → Every (WellDeclared ds) (declared_formals formals) → WordsFit ds formals (map (λ (value : Value). value.words) vs)
+    → arguments_fit ts (formal_types ds formals) ≡ true → Every (WellDeclared ds) (declared_formals formals) → ListsFit ds formals (map (λ (value : Value). value.words) vs)
 words_fit ds well ts formals vs h e w = values_fit ds ts formals vs (formals_agree ds well ts formals (values_some ds ts vs h) e w) h
 
 args_some : (ds : List Declaration) (ts : List (Option ValueType)) (args : List Arg) → AllZip (ArgHas ds) ts args → list_any is_none ts ≡ false

@@ -32,7 +32,7 @@ use Rattle.mpl_mean.specs.Types.{Declared, declared_fields, declared_formals, fi
 use Rattle.mpl_mean.specs.Types as types
 use Rattle.mpl_mean.proofs.ComesBack.{after_plain}
 use Rattle.mpl_mean.proofs.Follows.{store_after}
-use Rattle.mpl_mean.proofs.SizedAnswers.{WordsFit}
+use Rattle.mpl_mean.proofs.SizedAnswers.{ListsFit}
 use Rattle.mpl_mean.proofs.SizedParts.{PartFits}
 use Rattle.mpl_mean.proofs.SizedRules.{AllRight, HasType, WellDeclared}
 use Rattle.mpl_mean.proofs.SizedScopes.{Moved, Moves, so_moves, still_moves, then_moves}
@@ -63,7 +63,7 @@ run_moves G S s vs ts =
 -- ---- formals
 
 pub formals_match : (ds : List Declaration) (total : ℕ) (name : List ℕ) (formals : List Formal) (arguments : List (List ℤ)) (state : List Declared) (part : Option Part)
-    → WordsFit ds formals arguments → Every (WellDeclared ds) (declared_formals formals) → PartFits ds total (first_named name state) part
+    → ListsFit ds formals arguments → Every (WellDeclared ds) (declared_formals formals) → PartFits ds total (first_named name state) part
     → PlaceFits ds total (first_named name (declared_formals formals ++ state)) (variable_named name (map bare (formals_holding formals arguments))) part
 formals_match ds total name [] arguments state part h w p = p
 formals_match ds total name (formal ∷ formals) [] state part h w p = absurd h
@@ -75,7 +75,7 @@ formals_match ds total name (formal ∷ formals) (words ∷ arguments) state par
       chosen true k = (refl, refl, w.0)
       chosen false k = k
 
-pub formals_fit : (ds : List Declaration) (formals : List Formal) (arguments : List (List ℤ)) → WordsFit ds formals arguments → Every (VariableFits ds) (formals_holding formals arguments)
+pub formals_fit : (ds : List Declaration) (formals : List Formal) (arguments : List (List ℤ)) → ListsFit ds formals arguments → Every (VariableFits ds) (formals_holding formals arguments)
 formals_fit ds [] arguments h = tt
 formals_fit ds (formal ∷ formals) [] h = absurd h
 formals_fit ds (formal ∷ formals) (words ∷ arguments) h = (h.0, formals_fit ds formals arguments h.1)
@@ -155,7 +155,7 @@ module _ (ds : List Declaration) (well : WellProgram ds) (replies : FinMap nat_c
   }
 
   pub plain_keeps : (state : ℕ) (result : Option ℕ) (calls : List CallMade) (May : List ℤ → Type 0) (vs : List Variable) (f : Function) (arguments : List (List ℤ))
-      → Keeps (frame ds replies state result calls May) vs (PlainFits ds f × WordsFit ds f.formals arguments) (List ℤ) (λ words. length words ≡ words_of ds f.result None) (plain_body context f arguments)
+      → Keeps (frame ds replies state result calls May) vs (PlainFits ds f × ListsFit ds f.formals arguments) (List ℤ) (λ words. length words ≡ words_of ds f.result None) (plain_body context f arguments)
   plain_keeps state result calls May vs f arguments = record {
     grows = λ s.
         grown s (run context f.body.statements (with_variables (formals_holding f.formals arguments) s))
@@ -183,11 +183,11 @@ module _ (ds : List Declaration) (well : WellProgram ds) (replies : FinMap nat_c
     inside_calls s (Returns words after) h = h
     inside_calls s (Ends e after) h = h
 
-    held : (s : Store) → (PlainFits ds f × WordsFit ds f.formals arguments) × Fits (frame ds replies state result calls May) vs s → (o : Outcome (Unit {0}))
+    held : (s : Store) → (PlainFits ds f × ListsFit ds f.formals arguments) × Fits (frame ds replies state result calls May) vs s → (o : Outcome (Unit {0}))
         → After (frame ds replies state result calls (λ words. length words ≡ words_of ds f.result None)) (λ _ t. Moved (frame ds replies state result calls (λ words. length words ≡ words_of ds f.result None))
         (map bare (formals_holding f.formals arguments)) (RunReady (frame ds replies state result calls (λ words. length words ≡ words_of ds f.result None))
         (setting None (InFunction f.result) (declared_formals f.formals) context) (map bare (formals_holding f.formals arguments)) f.body.statements) (λ ws. Unit {0}) t) o
-        → After (frame ds replies state result calls May) (λ words t. ((PlainFits ds f × WordsFit ds f.formals arguments) × (length words ≡ words_of ds f.result None)) × Fits (frame ds replies state result calls May) vs t)
+        → After (frame ds replies state result calls May) (λ words t. ((PlainFits ds f × ListsFit ds f.formals arguments) × (length words ≡ words_of ds f.result None)) × Fits (frame ds replies state result calls May) vs t)
         (after_plain f s o)
     held s q (Goes value after) i = let r = i.1.2.2 in record { state = r.state; calls = r.calls; result = r.result }
     held s q (Returns words after) i = let r = i.1 in ((q.0, i.0), (q.1.0, q.1.1, record { state = r.state; calls = r.calls; result = r.result }))

@@ -80,8 +80,8 @@ none_above k id (item.Empty at ∷ items) h = none_above k id items h
 abbrev member_at : ℕ → ResultType → Name → Option Formals → Block → Member
 member_at id result member formals body = record { id = id; name = member.text; result = result; formals = formals_of formals; body = body }
 
-abbrev pub class_at : ℕ → ℕ → Kind → Name → List Item → Class
-class_at number id kind class items = record { number = number; name = class.text; is_regular = is_regular kind; state = state_of items; members = members_from id items }
+abbrev pub class_declared : ℕ → ℕ → Kind → Name → List Item → Class
+class_declared number id kind class items = record { number = number; name = class.text; is_regular = is_regular kind; state = state_of items; members = members_from id items }
 
 -- the member of a name has a number in its class, and is what is found by it
 pub record HasNumber (id : ℕ) (items : List Item) (m : Member) : Type 0 where
@@ -167,15 +167,15 @@ class_found whole name meant regular items number id earlier (declaration.Class 
           let same = bytes_same class.text name i in
           let is = class_is e in
           record {
-            class = (class_at number id kind class others);
+            class = (class_declared number id kind class others);
             first = id;
             absent = struct_absent name (earlier ++ class.text ∷ []) ds (subst (λ w. list_any (bytes_eq name) (earlier ++ w ∷ []) ≡ true) (sym same) (among_last name earlier)) n.1;
-            found = ap (λ b. if b then Some (class_at number id kind class others) else class_named name (classes_from (number + 1) (id + length (members_from id others)) ds)) i;
+            found = ap (λ b. if b then Some (class_declared number id kind class others) else class_named name (classes_from (number + 1) (id + length (members_from id others)) ds)) i;
             is_regular = is.0;
             members = ap (members_from id) is.1;
             numbered = λ member m j.
                 let h = named_number member id others m j in
-                (h.least, ap (λ f. member_or (class_at number id kind class others) f (member_of_classes m.id (classes_from (number + 1) (id + length (members_from id others)) ds))) h.found);
+                (h.least, ap (λ f. member_or (class_declared number id kind class others) f (member_of_classes m.id (classes_from (number + 1) (id + length (members_from id others)) ds))) h.found);
             right = subst (λ (s : Surrounding). WellClass whole s) (ap (λ w. record { name = w; is_regular = is_regular kind; items = others }) same
                 ∙ (ap (λ r. record { name = name; is_regular = r; items = others }) is.0 ∙ ap (λ k. record { name = name; is_regular = regular; items = k }) is.1)) w.0;
           }
@@ -185,13 +185,13 @@ class_found whole name meant regular items number id earlier (declaration.Class 
             class = h.class;
             first = h.first;
             absent = h.absent;
-            found = ap (λ b. if b then Some (class_at number id kind class others) else class_named name (classes_from (number + 1) (id + length (members_from id others)) ds)) i ∙ h.found;
+            found = ap (λ b. if b then Some (class_declared number id kind class others) else class_named name (classes_from (number + 1) (id + length (members_from id others)) ds)) i ∙ h.found;
             is_regular = h.is_regular;
             members = h.members;
             numbered = λ member m j.
                 let q = h.numbered member m j in
                 let least = q.0 in
-                (omega arith, ap (λ f. member_or (class_at number id kind class others) f (member_of_classes m.id (classes_from (number + 1) (id + length (members_from id others)) ds))) (none_above m.id id others least) ∙ q.1);
+                (omega arith, ap (λ f. member_or (class_declared number id kind class others) f (member_of_classes m.id (classes_from (number + 1) (id + length (members_from id others)) ds))) (none_above m.id id others least) ∙ q.1);
             right = h.right;
           }
 class_found whole name meant regular items number id earlier (declaration.Function at result function formals body ∷ ds) n w e =

@@ -20,7 +20,7 @@ use Rattle.mpl_mean.specs.Store.{Doing, Variable}
 use Rattle.mpl_mean.specs.Types.{AsResult, Declared, meant, shape_of, value_type}
 use Rattle.mpl_mean.specs.Typing.{target_shape, type_of, type_of_element, type_of_plain_call, type_of_whole, types_of}
 use Rattle.mpl_mean.specs.Values.{Value, is_true}
-use Rattle.mpl_mean.proofs.SizedAnswers.{WordsFit, all_keep, zip_from}
+use Rattle.mpl_mean.proofs.SizedAnswers.{ListsFit, all_keep, zip_from}
 use Rattle.mpl_mean.proofs.SizedArguments.{ValueHas, function_of, some_function, words_fit}
 use Rattle.mpl_mean.proofs.SizedForms.{Means, MeansEach, number, truth, own, input, whole, element, plain, parenthesized, unary, arithmetic, compares, equates, or, and}
 use Rattle.mpl_mean.proofs.SizedForms as each
@@ -51,7 +51,7 @@ pub read_keeps : (G : Frame) (S : Setting) (well : WellProgram G.declarations) (
 read_keeps G S well blocks vs t m n = spot_keeps G S well blocks vs t words_of_spot m n (λ spot. read_spot G S blocks vs t spot)
 
 called_keeps : (G : Frame) (S : Setting) (s : Sound G S) (vs : List Variable) {P : Type 0} (o : Option Function) (arguments : List (List ℤ))
-    → (P → (f : Function) × (o ≡ Some f) × PlainFits G.declarations f × WordsFit G.declarations f.formals arguments)
+    → (P → (f : Function) × (o ≡ Some f) × PlainFits G.declarations f × ListsFit G.declarations f.formals arguments)
     → Keeps G vs P Value (λ v. (f : Function) → o ≡ Some f → length v.words ≡ words_of G.declarations f.result None) (called (inside G S) o arguments)
 called_keeps G S s vs None arguments h = stop_keeps G vs _
 called_keeps G S s vs (Some f) arguments h =
@@ -59,7 +59,7 @@ called_keeps G S s vs (Some f) arguments h =
     (from_premise G vs
     (λ p.
     let g = h p in
-    subst (λ f. PlainFits G.declarations f × WordsFit G.declarations f.formals arguments) (sym (some_function g.1)) (g.2, g.3))
+    subst (λ f. PlainFits G.declarations f × ListsFit G.declarations f.formals arguments) (sym (some_function g.1)) (g.2, g.3))
     ((s.below).plain G.state_words G.result_words G.calls G.MayReturn vs f arguments))
     (λ words. give_keeps G vs _ (λ p g e. p.1 ∙ ap (λ (f : Function). words_of G.declarations f.result None) (some_function e)))
 
@@ -99,7 +99,7 @@ module _ (G : Frame) (S : Setting) (s : Sound G S) (blocks : List (List Declared
   )
 
   plain_fits : (f : Name) (at : ℕ) (ps : Phrases) (values : List Value) → Ready (phrase.PlainCall at f ps) → AllZip (ValueHas G.declarations) (types_of (here G S blocks) ps) values
-      → (g : Function) × (function_named f.text G.declarations ≡ Some g) × PlainFits G.declarations g × WordsFit G.declarations g.formals (map (λ (value : Value). value.words) values)
+      → (g : Function) × (function_named f.text G.declarations ≡ Some g) × PlainFits G.declarations g × ListsFit G.declarations g.formals (map (λ (value : Value). value.words) values)
   plain_fits f at ps values r h =
       let known = (r.1).0.known in
       let takes = (r.1).1.0.plain in

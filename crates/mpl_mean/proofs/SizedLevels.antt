@@ -20,7 +20,7 @@ use Rattle.mpl_mean.specs.Sizes.{ArgFits, ResultFits, words_of_result}
 use Rattle.mpl_mean.specs.Store.{Store, Outcome, Goes, Returns, Ends, Variable, stop}
 use Rattle.mpl_mean.specs.Types.{InState, OfClass, OneValue, declared_fields, declared_formals, first_named}
 use Rattle.mpl_mean.proofs.Follows.{store_after}
-use Rattle.mpl_mean.proofs.SizedAnswers.{WordsFit}
+use Rattle.mpl_mean.proofs.SizedAnswers.{ListsFit}
 use Rattle.mpl_mean.proofs.SizedBodies.{arg_of_fits, at_fits, end_fits, formals_fit, formals_match, member_is, plain_keeps, run_moves, setting}
 use Rattle.mpl_mean.proofs.SizedParts.{PartFits}
 use Rattle.mpl_mean.proofs.SizedRules.{WellResult}
@@ -72,7 +72,7 @@ module _ (ds : List Declaration) (well : WellProgram ds) (replies : FinMap nat_c
   end_has m (Ends e after) h = arg_of_fits (words_of_result ds m.result) _ (at_fits (Some (words_of_result ds m.result)) e after.result h)
 
   regular_keeps : (state : ℕ) (result : Option ℕ) (calls : List CallMade) (May : List ℤ → Type 0) (vs : List Variable) (m : Member) (arguments : List (List ℤ))
-      → Keeps (frame ds replies state result calls May) vs (RegularFits ds m × WordsFit ds m.formals arguments) Arg (ArgFits (words_of_result ds m.result)) (regular_body context m arguments)
+      → Keeps (frame ds replies state result calls May) vs (RegularFits ds m × ListsFit ds m.formals arguments) Arg (ArgFits (words_of_result ds m.result)) (regular_body context m arguments)
   regular_keeps state result calls May vs m arguments = record {
     grows = λ s. let o = run context m.body.statements (store_with (formals_holding m.formals arguments) [] [] s.turns) in grown s (store_of o).turns (member_end m o);
     holds = λ s q w.
@@ -97,10 +97,10 @@ module _ (ds : List Declaration) (well : WellProgram ds) (replies : FinMap nat_c
     grown s n (end.Waits, r) = front_itself s.calls
     grown s n (end.Spent, r) = front_itself s.calls
 
-    held : (s : Store) → (RegularFits ds m × WordsFit ds m.formals arguments) × Fits (frame ds replies state result calls May) vs s → (n : ℕ) (e : BodyEnd × BodyResult)
+    held : (s : Store) → (RegularFits ds m × ListsFit ds m.formals arguments) × Fits (frame ds replies state result calls May) vs s → (n : ℕ) (e : BodyEnd × BodyResult)
         → ArgFits (words_of_result ds m.result) (arg_of_result e.1)
         → After (frame ds replies state result calls May)
-        (λ a t. ((RegularFits ds m × WordsFit ds m.formals arguments) × ArgFits (words_of_result ds m.result) a) × Fits (frame ds replies state result calls May) vs t) (back_with n e s)
+        (λ a t. ((RegularFits ds m × ListsFit ds m.formals arguments) × ArgFits (words_of_result ds m.result) a) × Fits (frame ds replies state result calls May) vs t) (back_with n e s)
     held s q n (end.Done, r) h = ((q.0, h), q.1)
     held s q n (end.Trap t, r) h = ((q.0, h), q.1)
     held s q n (end.Waits, r) h = ((q.0, h), q.1)

@@ -17,7 +17,7 @@ use Rattle.mpl_mean.specs.Sizes.{ArgFits, CallReplyFits, Every, words_of_result}
 use Rattle.mpl_mean.specs.Store.{Doing, Variable, variable_named}
 use Rattle.mpl_mean.specs.Types.{Declared, OfClass, OneValue, declared_formals, first_named}
 use Rattle.mpl_mean.specs.Typing.{member_called}
-use Rattle.mpl_mean.proofs.SizedAnswers.{IsMember, WordsFit}
+use Rattle.mpl_mean.proofs.SizedAnswers.{IsMember, ListsFit}
 use Rattle.mpl_mean.proofs.SizedClasses.{bytes_same}
 use Rattle.mpl_mean.proofs.SizedParts.{PartFits}
 use Rattle.mpl_mean.proofs.SizedRules.{HasType, WellDeclared, WellMember, WellResult, WellRoutine, within}
@@ -55,9 +55,9 @@ frame ds replies state result calls May = record { declarations = ds; replies = 
 -- in each frame what is called with fitting words gives fitting words
 pub record BelowFits (ds : List Declaration) (replies : FinMap nat_cmp Known) (b : Below) : Type 1 where
   pub plain : (state : ℕ) (result : Option ℕ) (calls : List CallMade) (May : List ℤ → Type 0) (vs : List Variable) (f : Function) (arguments : List (List ℤ))
-      → Keeps (frame ds replies state result calls May) vs (PlainFits ds f × WordsFit ds f.formals arguments) (List ℤ) (λ words. length words ≡ words_of ds f.result None) (b.plain f arguments)
+      → Keeps (frame ds replies state result calls May) vs (PlainFits ds f × ListsFit ds f.formals arguments) (List ℤ) (λ words. length words ≡ words_of ds f.result None) (b.plain f arguments)
   pub regular : (state : ℕ) (result : Option ℕ) (calls : List CallMade) (May : List ℤ → Type 0) (vs : List Variable) (m : Member) (arguments : List (List ℤ))
-      → Keeps (frame ds replies state result calls May) vs (RegularFits ds m × WordsFit ds m.formals arguments) Arg (ArgFits (words_of_result ds m.result)) (b.regular m arguments)
+      → Keeps (frame ds replies state result calls May) vs (RegularFits ds m × ListsFit ds m.formals arguments) Arg (ArgFits (words_of_result ds m.result)) (b.regular m arguments)
 
 -- the member that is called, and what the type rules see of it
 pub record Callee (ds : List Declaration) (m n : Member) : Type 0 where

@@ -17,13 +17,13 @@ use Rattle.mpl_mean.specs.ProgramNodes.{function_body}
 use Rattle.mpl_mean.specs.Scopes.{InFunction, InMain, Surrounding, is_main}
 use Rattle.mpl_mean.specs.Sizes.{Every, words_of_formal, words_of_formals}
 use Rattle.mpl_mean.specs.Types.{AClass, AStruct, meant_by}
-use Rattle.mpl_mean.proofs.SizedAnswers.{WordsFit}
-use Rattle.mpl_mean.proofs.SizedClasses.{NamesDiffer, bytes_itself, bytes_same, class_at}
+use Rattle.mpl_mean.proofs.SizedAnswers.{ListsFit}
+use Rattle.mpl_mean.proofs.SizedClasses.{NamesDiffer, bytes_itself, bytes_same, class_declared}
 use Rattle.mpl_mean.proofs.SizedRules.{WellClass, WellDeclaration, WellItem, WellMain, WellMember, WellRoutine}
 
 -- ---- arguments
 
-pub split_fit : (ds : List Declaration) (formals : List Formal) (words : List ℤ) → words_of_formals ds formals ≤ length words → WordsFit ds formals (split_words ds formals words)
+pub split_fit : (ds : List Declaration) (formals : List Formal) (words : List ℤ) → words_of_formals ds formals ≤ length words → ListsFit ds formals (split_words ds formals words)
 split_fit ds [] words h = tt
 split_fit ds (formal ∷ formals) words h =
     let n = words_of ds formal.type_name None in
@@ -122,7 +122,7 @@ class_numbered whole k found number id earlier (declaration.Struct at line struc
 class_numbered whole k found number id earlier (declaration.Class at line kind class items ∷ ds) n w e =
     chosen (member_numbered k (members_from id items)) refl e (class_numbered whole k found (number + 1) (id + length (members_from id items)) (earlier ++ class.text ∷ []) ds n.1 w.1) where
       chosen : (o : Option Member) → member_numbered k (members_from id items) ≡ o
-          → member_or (class_at number id kind class items) o (member_of_classes k (classes_from (number + 1) (id + length (members_from id items)) ds)) ≡ Some found
+          → member_or (class_declared number id kind class items) o (member_of_classes k (classes_from (number + 1) (id + length (members_from id items)) ds)) ≡ Some found
           → (member_of_classes k (classes_from (number + 1) (id + length (members_from id items)) ds) ≡ Some found
           → ClassNumbered whole found (earlier ++ class.text ∷ []) (number + 1) (id + length (members_from id items)) ds)
           → ClassNumbered whole found earlier number id (declaration.Class at line kind class items ∷ ds)
@@ -130,7 +130,7 @@ class_numbered whole k found number id earlier (declaration.Class at line kind c
           subst (λ found. ClassNumbered whole found earlier number id (declaration.Class at line kind class items ∷ ds)) (some_pair e) (record {
             items = items;
             meant = ap (λ b. if b then AClass class.text (is_regular kind) items else meant_by class.text ds) (bytes_itself class.text);
-            named = ap (λ b. if b then Some (class_at number id kind class items) else class_named class.text (classes_from (number + 1) (id + length (members_from id items)) ds)) (bytes_itself class.text);
+            named = ap (λ b. if b then Some (class_declared number id kind class items) else class_named class.text (classes_from (number + 1) (id + length (members_from id items)) ds)) (bytes_itself class.text);
             state = refl;
             right = w.0;
             member = number_well whole _ k id items m w.0.0 i;
@@ -142,7 +142,7 @@ class_numbered whole k found number id earlier (declaration.Class at line kind c
           record {
             items = c.items;
             meant = ap (λ b. if b then AClass (found.0).name (is_regular kind) items else meant_by (found.0).name ds) f.1 ∙ c.meant;
-            named = ap (λ b. if b then Some (class_at number id kind class items) else class_named (found.0).name (classes_from (number + 1) (id + length (members_from id items)) ds)) f.1 ∙ c.named;
+            named = ap (λ b. if b then Some (class_declared number id kind class items) else class_named (found.0).name (classes_from (number + 1) (id + length (members_from id items)) ds)) f.1 ∙ c.named;
             state = c.state;
             right = c.right;
             member = c.member;
