@@ -55,3 +55,32 @@ pub mod BothReadLocals
 pub mod BothReadStatements
 pub mod BothReadClasses
 pub mod OneTree
+mod SizedSteps
+mod SizedForms
+mod SizedExpressionLevels
+mod SizedExpressionForms
+mod SizedStatementForms
+mod SizedStores
+mod SizedScopes
+mod SizedAnswers
+mod SizedRules
+mod SizedClasses
+mod SizedTypes
+mod SizedParts
+mod SizedSettings
+mod SizedPlaces
+mod SizedArguments
+mod SizedTyping
+mod SizedExpressions
+mod SizedCallees
+mod SizedCalls
+mod SizedFlows
+mod SizedAssignments
+mod SizedLocals
+mod SizedBlocks
+mod SizedStatements
+mod SizedBodies
+mod SizedLevels
+mod SizedPrograms
+mod SizedStarts
+mod SizedYields

@@ -41,3 +41,4 @@ pub mod TrapPrograms
 pub mod LoopPrograms
 pub mod OrderPrograms
 pub mod ReplyPrograms
+pub mod Sizes

@@ -9,6 +9,7 @@ ghost use Rattle.mpl_mean.specs.Lexemes.{tokens_of};
 ghost use Rattle.mpl_mean.specs.MoreReplies.{AreAmong, Grows};
 ghost use Rattle.mpl_mean.specs.ProgramText.{spells};
 ghost use Rattle.mpl_mean.specs.Rules.{Failure, fails, failures, first_failures, is_typed, least_failure, IsNotBehind};
+ghost use Rattle.mpl_mean.specs.Sizes.{RepliesFit, Sized, StartFits};
 ghost use Rattle.mpl_value.specs.declared.body.BodyEnd.TheVariants as end;
 ghost use Rattle.mpl_value.specs.declared.body.BodyStart.{BodyStart};
 ghost use Rattle.mpl_value.specs.declared.known.Known.{Known};
@@ -45,4 +46,9 @@ pub fn more_turns_change_nothing()
 /// With more replies to its calls a body goes on from where it stood.
 pub fn more_replies_only_add()
     ensures { (p : Program) (start : BodyStart) (replies more : FinMap nat_cmp Known) (n : ℕ) → AreAmong replies more → (yield_of p start replies n).end ≢ end.Spent → (yield_of p start more n).end ≢ end.Spent → Grows (yield_of p start replies n) (yield_of p start more n) }
+{}
+
+/// In a well typed program what a body makes has the sizes of its declarations.
+pub fn sizes_are_kept()
+    ensures { (p : Program) (start : BodyStart) (replies : FinMap nat_cmp Known) (n : ℕ) → is_typed p ≡ true → StartFits p start → RepliesFit p start replies n → Sized p start (yield_of p start replies n) }
 {}

@@ -8,7 +8,7 @@ mod worked;
 
 pub use laws::{
     more_replies_only_add, more_turns_change_nothing, refusals_are_least, seven_rules_are_enough,
-    tokens_are_few, tokens_have_one_tree,
+    sizes_are_kept, tokens_are_few, tokens_have_one_tree,
 };
 pub use typed::Typed;
 pub use worked::{
