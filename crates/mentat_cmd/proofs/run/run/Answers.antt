@@ -16,9 +16,12 @@ runs_directly p y start replies turns told starts none =
     ∙ ap (λ (s : BodyStart). yield_of p s replies turns) starts
     ∙ ap (λ (r : FinMap nat_cmp Known). yield_of p (main_start []) r turns) none
 
+pub returns-then-not-branch : goal.returns-then-not-branch
+returns-then-not-branch c = ?
+
 pub returns-in-Ok-walk : goal.returns-in-Ok-walk
 returns-in-Ok-walk c =
-    let spelled : Spells c.args.source.now c.in-Ok-parse.program = search rules in
+    let spelled : Spells c.args.source.now c.in-Ok-parse.program = ? in
     let yield : c.in-Ok-walk.done ≡ direct_run c.in-Ok-parse.program [] 1000000 =
     runs_directly c.in-Ok-parse.program c.in-Ok-walk.done c.start_of_main-start.result c.new-replies.result 1000000 c.in-Ok-walk.ensures.meaning c.start_of_main-start.ensures c.new-replies.ensures in
     record { program = c.in-Ok-parse.program; source_is = spelled; yield = yield }
