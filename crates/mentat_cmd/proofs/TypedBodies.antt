@@ -115,7 +115,7 @@ main_holds ds items [] h block scope agrees = record { holds = refl; words = λ 
 main_holds ds items (s ∷ ss) h block scope agrees =
     let b = both_true (is_first_statement s) (list_all is_first_statement ss) h in
     let all = joined ds block (action_walk (action_of s)) (behind ds (out-Statement s) scope) (numbers_of (out-Statement s)) ss
-        (statement_goes ds items block scope agrees s b.0) (λ block' new agrees'. main_holds ds items ss b.1 block' new agrees') in
+    (statement_goes ds items block scope agrees s b.0) (λ block' new agrees'. main_holds ds items ss b.1 block' new agrees') in
     record {
       holds = all.holds;
       words = λ e. all.words e ∙ counted_one (declares_number (out-Statement s)) s (filter (λ s. declares_number (out-Statement s)) ss);

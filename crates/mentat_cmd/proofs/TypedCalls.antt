@@ -177,9 +177,9 @@ call_held here scope agrees at (target.Variable place v) member fs h g =
     let shape = variable_shape here v.text in
     let ts = types_of here (listed (map phrase_of_flow fs)) in
     ap₂ (λ a b. a && b)
-        (by_one at (rule 19 member_call_fits) (can_be_called shape && member_takes ds (option_and_then (member_of member.text) (items_called ds shape)) ts))
-        (ap₂ (λ a b. a && b) (by_one member.from (rule 1 name_is_known) (has_member member.text (items_called ds shape)))
-            (ap₂ (λ a b. a && b) (by_one v.from (rule 1 name_is_known) (is_some (variable_of here v.text))) (each_held here scope agrees fs g)))
+    (by_one at (rule 19 member_call_fits) (can_be_called shape && member_takes ds (option_and_then (member_of member.text) (items_called ds shape)) ts))
+    (ap₂ (λ a b. a && b) (by_one member.from (rule 1 name_is_known) (has_member member.text (items_called ds shape)))
+    (ap₂ (λ a b. a && b) (by_one v.from (rule 1 name_is_known) (is_some (variable_of here v.text))) (each_held here scope agrees fs g)))
     ∙ receiver_held ds (variable_of here v.text) (scope v.text) (agrees v.text) member.text ts (each_type here scope agrees fs g) (list_all (flow_fits scope) fs)
     ∙ ap (λ n. can_call (scope v.text) member.text n && list_all (flow_fits scope) fs) (each_length here fs)
 call_held here scope agrees at (target.Field place v f) member fs h g = absurd cc

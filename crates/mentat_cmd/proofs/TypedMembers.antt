@@ -86,8 +86,8 @@ formals_words ds (f ∷ fs) h =
     let b = both_true (is_int f.type_name) (are_int_formals fs) h in
     sum_by-cons (λ (d : Declared). words_of_meant (meant ds d.type) (dimension_of d.dimension)) (formal_declared f) (declared_formals fs)
     ∙ ap₂ (λ (m n : ℕ). m + n) (int_word ds f.type_name b.0) (formals_words ds fs b.1) ∙ one (length fs) where
-  one : (n : ℕ) → 1 + n ≡ suc n
-  one n = omega arith
+      one : (n : ℕ) → 1 + n ≡ suc n
+      one n = omega arith
 
 -- ---- in a member
 
@@ -162,6 +162,6 @@ member_held ds class items result fs h at ss one few =
     let words : words_of_variables ds (declared_formals fs ++ locals_among nodes) ≡ length fs =
     ap (λ (locals : List Declared). words_of_variables ds (declared_formals fs ++ locals)) all.none ∙ ap (words_of_variables ds) (append-nil (declared_formals fs)) ∙ formals_words ds fs h in
     ap₂ (λ a b. a && b)
-        (by_one at (rule 7 variables_fit) (nat_le (words_of_variables ds (declared_formals fs ++ locals_among nodes)) most_words_of_variables)
-        ∙ ap (λ n. nat_le n most_words_of_variables) words ∙ few_fit (length fs) most_formals most_words_of_variables (omega arith) few)
-        all.holds
+    (by_one at (rule 7 variables_fit) (nat_le (words_of_variables ds (declared_formals fs ++ locals_among nodes)) most_words_of_variables)
+    ∙ ap (λ n. nat_le n most_words_of_variables) words ∙ few_fit (length fs) most_formals most_words_of_variables (omega arith) few)
+    all.holds

@@ -101,8 +101,8 @@ formal_kept here before earlier [] h = refl
 formal_kept here before earlier (f ∷ fs) h =
     let b = both_true (is_int f.type_name) (are_int_formals fs) h in
     ap₂ (λ a c. a && c) (by_one (type_at f.type_name) (rule 8 count_fits) (not (before == most_formals)))
-        (ap₂ (λ a c. a && c) (by_one f.name.from (rule 2 name_is_new) (is_new earlier f.name.text))
-            (ap₂ (λ a c. a && c) (used_int (type_at f.type_name) here AsFormal true f.type_name b.0) (formal_kept here (before + 1) (earlier ++ f.name.text ∷ []) fs b.1)))
+    (ap₂ (λ a c. a && c) (by_one f.name.from (rule 2 name_is_new) (is_new earlier f.name.text))
+    (ap₂ (λ a c. a && c) (used_int (type_at f.type_name) here AsFormal true f.type_name b.0) (formal_kept here (before + 1) (earlier ++ f.name.text ∷ []) fs b.1)))
 
 all_true : {X : Type 0} (xs : List X) → list_all (λ (x : X). true) xs ≡ true
 all_true [] = refl
@@ -131,12 +131,12 @@ items_kept here before (item.Member at result name fs body ∷ is) h =
     let d = both_true (is_int_result result) (are_ints fs) c.0 in
     let later = record before { names = before.names ++ name.text ∷ []; members = before.members + 1 } in
     ap₂ (λ a c. a && c) (by_one at.span.from (rule 8 count_fits) (not (before.members == most_members)))
-        (ap₂ (λ a c. a && c) (by_one name.from (rule 2 name_is_new) (is_new before.names name.text))
-            (held_append (result_nodes result here ++ formal_nodes here 0 [] (formals_of fs)) (item_nodes here later is)
-            ∙ ap₂ (λ a c. a && c)
-                (held_append (result_nodes result here) (formal_nodes here 0 [] (formals_of fs))
-                ∙ ap₂ (λ a c. a && c) (result_held here result d.0) (formals_held here (formals_of fs) (ints_of fs d.1)))
-                (items_kept here later is b.1)))
+    (ap₂ (λ a c. a && c) (by_one name.from (rule 2 name_is_new) (is_new before.names name.text))
+    (held_append (result_nodes result here ++ formal_nodes here 0 [] (formals_of fs)) (item_nodes here later is)
+    ∙ ap₂ (λ a c. a && c)
+    (held_append (result_nodes result here) (formal_nodes here 0 [] (formals_of fs))
+    ∙ ap₂ (λ a c. a && c) (result_held here result d.0) (formals_held here (formals_of fs) (ints_of fs d.1)))
+    (items_kept here later is b.1)))
 items_kept here before (item.Select at line entries ∷ is) h = absurd cc
 items_kept here before (item.Public at ∷ is) h = absurd cc
 items_kept here before (item.Private at ∷ is) h = absurd cc
@@ -158,9 +158,9 @@ class_part : (here : Here) (d : Declaration) → is_class d ≡ true → part he
 class_part here (declaration.Struct at line name fields) h = absurd cc
 class_part here (declaration.Class at line (Regular k) name items) h =
     ap₂ (λ a b. a && b) (no_class (is_main name.text)) (items_held (in_class (surrounding (Regular k) name items) here) items h) where
-  no_class : (b : Bool) → main_is_right b (declaration.Class at line (Regular k) name items) ≡ not b
-  no_class true = refl
-  no_class false = refl
+      no_class : (b : Bool) → main_is_right b (declaration.Class at line (Regular k) name items) ≡ not b
+      no_class true = refl
+      no_class false = refl
 class_part here (declaration.Class at line (Persistent k) name items) h = absurd cc
 class_part here (declaration.Function at result name fs body) h = absurd cc
 
@@ -176,11 +176,11 @@ main_part here (declaration.Class at line kind name items) h = absurd cc
 main_part here (declaration.Function at result name None body) h =
     let e = main_parts (is_int result) (bytes_eq name.text (codes "main")) true (list_all is_first_statement body.statements) h in
     ap₂ (λ a b. a && (b && true)) (right (is_main name.text) result e.0) (used_int (type_at result) here AsResult true result e.0) where
-  right : (b : Bool) (t : TypeName) → is_int t ≡ true → main_is_right b (declaration.Function at t name None body) ≡ true
-  right false t h = refl
-  right true (type.Int place) h = refl
-  right true (type.Bool place) h = absurd cc
-  right true (type.Named place n) h = absurd cc
+      right : (b : Bool) (t : TypeName) → is_int t ≡ true → main_is_right b (declaration.Function at t name None body) ≡ true
+      right false t h = refl
+      right true (type.Int place) h = refl
+      right true (type.Bool place) h = absurd cc
+      right true (type.Named place n) h = absurd cc
 main_part here (declaration.Function at result name (Some fs) body) h =
     let e = main_parts (is_int result) (bytes_eq name.text (codes "main")) false (list_all is_first_statement body.statements) h in absurd cc
 
@@ -196,7 +196,7 @@ declaration_kept : (here : Here) (before : ℕ) (earlier : List (List ℕ)) (d :
 declaration_kept here before earlier d others fits rest is left =
     let later = declaration_nodes here (before + 1) (earlier ++ (declared_name d).text ∷ []) others in
     ap₂ (λ a c. a && c) (by_two (declaration_at d) (rule 3 main_is_there) (rule 8 count_fits) (main_is_right (is_named_main d) d) (not (before == most_declarations)))
-        (ap₂ (λ a c. a && c) (by_one (declared_name d).from (rule 2 name_is_new) (is_new earlier (declared_name d).text)) (held_append (parts_nodes here d) later))
+    (ap₂ (λ a c. a && c) (by_one (declared_name d).from (rule 2 name_is_new) (is_new earlier (declared_name d).text)) (held_append (parts_nodes here d) later))
     ∙ regrouped (main_is_right (is_named_main d) d) (not (before == most_declarations)) (is_new earlier (declared_name d).text) (held (parts_nodes here d)) (held later)
     ∙ ap₂ (λ a c. not (before == most_declarations) && (is_new earlier (declared_name d).text && (a && c))) is left
 
@@ -224,14 +224,14 @@ main_there [] h = absurd cc
 main_there (d ∷ []) h = ap (λ b. b || false) (named_main d h)
 main_there (d ∷ e ∷ others) h =
     ap (λ b. is_named_main d || b) (main_there (e ∷ others) (both_true (is_class d) (are_first (e ∷ others)) h).1) ∙ or_true (is_named_main d) where
-  or_true : (b : Bool) → (b || true) ≡ true
-  or_true true = refl
-  or_true false = refl
+      or_true : (b : Bool) → (b || true) ≡ true
+      or_true true = refl
+      or_true false = refl
 
 pub outline_held : (p : Program) → are_first p.declarations ≡ true → held (outline_nodes p) ≡ outline_fits p.declarations
 outline_held p h =
     let ds = p.declarations in
     ap₂ (λ a b. a && b) (by_one 0 (rule 3 main_is_there) (list_any is_named_main ds) ∙ main_there ds h)
-        (declarations_kept (at_top ds) 0 [] ds h ∙ kept_is name_of_declaration declaration_fits most_declarations ds 0 [] (omega arith)
-        ∙ ap (λ n. nat_le n most_declarations && (are_new [] (map name_of_declaration ds) && list_all declaration_fits ds)) (from_none (length ds))
-        ∙ grouped (nat_le (length ds) most_declarations) (are_new [] (map name_of_declaration ds)) (list_all declaration_fits ds))
+    (declarations_kept (at_top ds) 0 [] ds h ∙ kept_is name_of_declaration declaration_fits most_declarations ds 0 [] (omega arith)
+    ∙ ap (λ n. nat_le n most_declarations && (are_new [] (map name_of_declaration ds) && list_all declaration_fits ds)) (from_none (length ds))
+    ∙ grouped (nat_le (length ds) most_declarations) (are_new [] (map name_of_declaration ds)) (list_all declaration_fits ds))

@@ -90,7 +90,7 @@ main_inside ds items (declaration.Function at result name None body) h =
     and_true_right _
     ∙ ap (λ (b : Body). held (inner_nodes (in_body b [] (at_top ds)) (OfRoutine at.span.from [] (actions_of body)))) (ap (λ t. if t then InMain else InFunction result) e.1)
     ∙ ap (λ b. b && held (main_nodes ds body.statements))
-        (by_one at.span.from (rule 7 variables_fit) (nat_le (words_of_variables ds (locals_among (main_nodes ds body.statements))) most_words_of_variables))
+    (by_one at.span.from (rule 7 variables_fit) (nat_le (words_of_variables ds (locals_among (main_nodes ds body.statements))) most_words_of_variables))
     ∙ main_held ds items body.statements e.3 most_words_of_variables
 main_inside ds items (declaration.Function at result name (Some fs) body) h =
     let e = main_parts (is_int result) (bytes_eq name.text (codes "main")) false (list_all is_first_statement body.statements) h in absurd cc
@@ -118,5 +118,5 @@ typed_fits p h =
     ap is_empty (first_form_failures p h) ∙ none_fails (nodes p)
     ∙ held_append (outline_nodes p) (nodes_inside (heres p) (inners p))
     ∙ both_fit (held (outline_nodes p)) (outline_fits ds) (held (nodes_inside (heres p) (inners p))) (list_all (bodies_fit ds) ds) (outline_held p h) (λ fits.
-        insides_held (insides p)
-        ∙ all_inside ds (items_first ds h) ds h (both_true (nat_le (length ds) most_declarations && are_distinct (map name_of_declaration ds)) (list_all declaration_fits ds) fits).1)
+    insides_held (insides p)
+    ∙ all_inside ds (items_first ds h) ds h (both_true (nat_le (length ds) most_declarations && are_distinct (map name_of_declaration ds)) (list_all declaration_fits ds) fits).1)

@@ -137,6 +137,7 @@ pub declared_is : (name : List ℕ) (k : Kind) (scope new : Scope) → declare n
 declared_is name k scope new = one (scope name) where
   some_same : {A : Type 0} (x y : A) → Some x ≡ Some y → x ≡ y
   some_same x y e = cc
+
   one : (o : Option Kind) → (if is_some o then None else Some (with_variable name k scope)) ≡ Some new → (o ≡ None) × (with_variable name k scope ≡ new)
   one None e = (refl, some_same (with_variable name k scope) new e)
   one (Some j) e = absurd cc

@@ -127,11 +127,11 @@ pub print_goes : (ds : List Declaration) (block : List Declared) (scope : Scope)
 print_goes ds block scope agrees at es h = record {
   holds = print_held (main_here ds block) scope agrees es h ∙ chosen_some (list_all (expression_fits scope) es) scope;
   next = λ new e. record {
-      block = block;
-      after = print_after (main_here ds block) (map phrase_of es);
-      agrees = subst (Agrees (main_here ds block)) (chosen_is (list_all (expression_fits scope) es) scope new e) agrees;
-      words = ap (words_of_variables ds) (print_locals (main_here ds block) es h);
-    };
+    block = block;
+    after = print_after (main_here ds block) (map phrase_of es);
+    agrees = subst (Agrees (main_here ds block)) (chosen_is (list_all (expression_fits scope) es) scope new e) agrees;
+    words = ap (words_of_variables ds) (print_locals (main_here ds block) es h);
+  };
 }
 
 -- ---- objects
@@ -162,7 +162,7 @@ object_goes : (ds : List Declaration) → AllItems ds → (block : List Declared
 object_goes ds all block scope agrees at class name = record {
   holds =
       ap₂ (λ a b. a && (b && true)) (by_one class.from (rule 1 name_is_known) (is_meant (meant_by class.text ds)))
-          (by_one name.from (rule 2 name_is_new) (not (list_any (bytes_eq name.text) (names_beside (main_here ds block)))))
+      (by_one name.from (rule 2 name_is_new) (not (list_any (bytes_eq name.text) (names_beside (main_here ds block)))))
       ∙ ap₂ (λ a b. a && (not b && true)) (meant_items (meant_by class.text ds) (class_items class.text ds) (all class.text)) (name_beside ds block scope agrees name.text)
       ∙ object_some (class_items class.text ds) name.text scope;
   next = λ new e. object_next ds block scope agrees at class name (class_items class.text ds) (all class.text) new e;
@@ -204,7 +204,7 @@ number_goes : (ds : List Declaration) (block : List Declared) (scope : Scope) �
 number_goes ds block scope agrees at name f h = record {
   holds =
       ap₂ (λ a b. a && b) (by_one name.from (rule 2 name_is_new) (not (list_any (bytes_eq name.text) (names_beside (main_here ds block)))))
-          (ap held (alone (phrase_nodes (main_here ds block) (phrase_of_flow f))) ∙ value_held (main_here ds block) scope agrees f h)
+      (ap held (alone (phrase_nodes (main_here ds block) (phrase_of_flow f))) ∙ value_held (main_here ds block) scope agrees f h)
       ∙ ap (λ b. not b && value_fits scope (out-Flow f)) (name_beside ds block scope agrees name.text)
       ∙ number_some (value_fits scope (out-Flow f)) name.text scope;
   next = λ new e. number_next ds block scope agrees at name f h (value_fits scope (out-Flow f)) new e;

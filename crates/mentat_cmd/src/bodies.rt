@@ -9,8 +9,8 @@ ghost use Rattle.mentat_cmd.specs.Variables.{seen};
 
 use crate::calls::{flow_fits, value_fits};
 use crate::lookup::{formals_of, items_of_type};
-use crate::uses::expressions_fit;
 use crate::scope::{Variable, Variables};
+use crate::uses::expressions_fit;
 use mpl_ast::class::Item;
 use mpl_ast::program::Declaration;
 use mpl_ast::statement::{Declarator, Local, Statement, TypeName};

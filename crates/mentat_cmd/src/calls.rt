@@ -8,8 +8,8 @@ ghost use Rattle.mentat_cmd.specs.Bodies.{call_fits, flow_fits, member_formals, 
 ghost use Rattle.mentat_cmd.specs.Variables.{seen};
 
 use crate::lookup::member_formals;
-use crate::uses::expression_fits;
 use crate::scope::{Variable, Variables};
+use crate::uses::expression_fits;
 use mpl_ast::class::Item;
 use mpl_ast::expression::Target;
 use mpl_ast::flow::{Call, Flow};
@@ -37,12 +37,7 @@ fn call_fits(variables: &Variables, call: &Call) -> bool
     }
 }
 
-fn target_can_call(
-    variables: &Variables,
-    target: &Target,
-    member: &[u8],
-    count: usize,
-) -> bool
+fn target_can_call(variables: &Variables, target: &Target, member: &[u8], count: usize) -> bool
     ensures { result ≡ target_can_call (seen variables.now) target.now member.now count }
 {
     match target {

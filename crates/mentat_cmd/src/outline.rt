@@ -11,7 +11,9 @@ use mpl_ast::class::{Formal, Item};
 use mpl_ast::program::Declaration;
 
 const MOST_DECLARATIONS: usize = 4096;
+
 const MOST_MEMBERS: usize = 64;
+
 const MOST_FORMALS: usize = 16;
 
 /// What is declared by a name.
@@ -85,9 +87,7 @@ fn is_among<T: Named>(earlier: &[T], name: &[u8]) -> bool
 pub fn outline_fits(declarations: &[Declaration]) -> bool
     ensures { result ≡ outline_fits declarations.now }
 {
-    declarations.len() <= MOST_DECLARATIONS
-        && are_distinct(declarations)
-        && each_fits(declarations)
+    declarations.len() <= MOST_DECLARATIONS && are_distinct(declarations) && each_fits(declarations)
 }
 
 fn each_fits(declarations: &[Declaration]) -> bool

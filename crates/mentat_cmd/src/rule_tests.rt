@@ -66,15 +66,39 @@ fn type_rules_are_kept(rt: HostRuntime) -> Result<(), Fail> {
         ("", "calc w; int x = w.sq(x);", None),
         ("", "calc w; int y = w.one(); int x = w.sq(y);", Some(5)),
         ("", "calc w; int x = w.two();", None),
-        ("regular mentat class c { int f(int x) { rtf(y); } };", "", None),
-        ("regular mentat class c { int f(int x) { rtf(x); } };", "", Some(1)),
+        (
+            "regular mentat class c { int f(int x) { rtf(y); } };",
+            "",
+            None,
+        ),
+        (
+            "regular mentat class c { int f(int x) { rtf(x); } };",
+            "",
+            Some(1),
+        ),
         // Names are new.
         ("regular mentat class calc { };", "", None),
         ("regular mentat class calk { };", "", Some(1)),
-        ("regular mentat class c { int f() { rtf(1); } int f() { rtf(2); } };", "", None),
-        ("regular mentat class c { int f() { rtf(1); } int g() { rtf(2); } };", "", Some(1)),
-        ("regular mentat class c { int f(int x, int x) { rtf(1); } };", "", None),
-        ("regular mentat class c { int f(int x, int y) { rtf(1); } };", "", Some(1)),
+        (
+            "regular mentat class c { int f() { rtf(1); } int f() { rtf(2); } };",
+            "",
+            None,
+        ),
+        (
+            "regular mentat class c { int f() { rtf(1); } int g() { rtf(2); } };",
+            "",
+            Some(1),
+        ),
+        (
+            "regular mentat class c { int f(int x, int x) { rtf(1); } };",
+            "",
+            None,
+        ),
+        (
+            "regular mentat class c { int f(int x, int y) { rtf(1); } };",
+            "",
+            Some(1),
+        ),
         ("", "calc w; calc w;", None),
         ("", "calc w; calc v;", Some(1)),
         ("", "calc w; int w = w.one();", None),
@@ -139,9 +163,15 @@ fn members_and_formals_have_limits(rt: HostRuntime) -> Result<(), Fail> {
         turns: 1,
     };
     assert_eq!(rt; with_members(rt.alloc(), 64)?.run(rt.alloc())?.ending, done);
-    assert_eq!(rt; with_members(rt.alloc(), 65)?.run(rt.alloc())?.ending, UNBUILT);
+    assert_eq!(rt;
+        with_members(rt.alloc(), 65)?.run(rt.alloc())?.ending,
+        UNBUILT
+    );
     assert_eq!(rt; with_formals(rt.alloc(), 16)?.run(rt.alloc())?.ending, done);
-    assert_eq!(rt; with_formals(rt.alloc(), 17)?.run(rt.alloc())?.ending, UNBUILT);
+    assert_eq!(rt;
+        with_formals(rt.alloc(), 17)?.run(rt.alloc())?.ending,
+        UNBUILT
+    );
     Ok(())
 }
 
@@ -169,13 +199,22 @@ fn results_have_a_limit(rt: HostRuntime) -> Result<(), Fail> {
         status: Status::Done,
         turns: 2049,
     };
-    assert_eq!(rt; with_results(rt.alloc(), 1, 1024)?.run(rt.alloc())?.ending, done);
-    assert_eq!(rt; with_results(rt.alloc(), 1, 1025)?.run(rt.alloc())?.ending, UNBUILT);
+    assert_eq!(rt;
+        with_results(rt.alloc(), 1, 1024)?.run(rt.alloc())?.ending,
+        done
+    );
+    assert_eq!(rt;
+        with_results(rt.alloc(), 1, 1025)?.run(rt.alloc())?.ending,
+        UNBUILT
+    );
     let alone = Ending {
         status: Status::Done,
         turns: 1,
     };
-    assert_eq!(rt; with_results(rt.alloc(), 1025, 0)?.run(rt.alloc())?.ending, alone);
+    assert_eq!(rt;
+        with_results(rt.alloc(), 1025, 0)?.run(rt.alloc())?.ending,
+        alone
+    );
     Ok(())
 }
 
@@ -196,7 +235,13 @@ fn declarations_have_a_limit(rt: HostRuntime) -> Result<(), Fail> {
         status: Status::Done,
         turns: 1,
     };
-    assert_eq!(rt; with_classes(rt.alloc(), 4095)?.run(rt.alloc())?.ending, done);
-    assert_eq!(rt; with_classes(rt.alloc(), 4096)?.run(rt.alloc())?.ending, UNBUILT);
+    assert_eq!(rt;
+        with_classes(rt.alloc(), 4095)?.run(rt.alloc())?.ending,
+        done
+    );
+    assert_eq!(rt;
+        with_classes(rt.alloc(), 4096)?.run(rt.alloc())?.ending,
+        UNBUILT
+    );
     Ok(())
 }

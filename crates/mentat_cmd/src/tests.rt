@@ -17,7 +17,12 @@ fn calls(alloc: Global, numbers: &[i64]) -> Result<Words, NoMemory> {
 }
 
 /// Gives these words to a command whose shelf has one file, `a.mpl`.
-pub fn command(alloc: Global, words: &[&str], source: &[u8], out: MemSink) -> Result<Answer, NoMemory> {
+pub fn command(
+    alloc: Global,
+    words: &[&str],
+    source: &[u8],
+    out: MemSink,
+) -> Result<Answer, NoMemory> {
     let mut out = out;
     let mut shelf = MemShelf::new(alloc, Words::new(alloc));
     shelf.add_file(Text::of(alloc, "a.mpl")?, Bytes::from_slice(alloc, source)?)?;

@@ -10,8 +10,8 @@ pub returns-then-not-branch : goal.returns-then-not-branch
 returns-then-not-branch c =
     let ds = c.as_slice-declarations.result.now in
     ap₂ (λ a b. a && b) (sym c.if-not-outline_fits.false ∙ c.outline_fits.ensures)
-        (all_failed (bodies_fit ds) ds c.loop-declaration.declaration-index c.declaration-item.result c.in_ok-bodies_fit.field-0
-        (omega arith) c.declaration-item.is c.in_ok-bodies_fit.ensures c.if-not-branch.true c.loop-declaration.invariant)
+    (all_failed (bodies_fit ds) ds c.loop-declaration.declaration-index c.declaration-item.result c.in_ok-bodies_fit.field-0
+    (omega arith) c.declaration-item.is c.in_ok-bodies_fit.ensures c.if-not-branch.true c.loop-declaration.invariant)
     ∙ ap (λ (all : List Declaration). outline_fits all && list_all (bodies_fit all) all) c.as_slice-declarations.ensures
 
 pub loop-declaration-preserved : goal.loop-declaration-preserved
