@@ -1,12 +1,12 @@
 -- A table of variables after a change.
-use Rattle.std.proofs.Common.{◌≡◌, ℕ, Bool, true, false, List, Option, Some, None, cond, is_some, not, if◌then◌else◌, option_map, refl, ap, sym, ◌∙◌, Bor}
+use Rattle.std.proofs.Common.{◌≡◌, ℕ, Bool, true, false, List, Option, Some, None, cond, is_some, not, if◌then◌else◌, option_map, refl, ap, sym, ◌∙◌}
 use Rattle.std.proofs.Math.Path.{fun_ext}
 use Rattle.std.proofs.lemmas.Map.Text.{btree_map_updates_str}
 use Rattle.std.specs.BTreeMap.{UpdatesBy, get_by}
 use Rattle.std.specs.Cmp.Lexicographic.{slice_cmp}
 use Rattle.std.specs.Ordering.{nat_cmp}
 use Rattle.std.specs.Str.{bytes_eq}
-use Rattle.mentat_cmd.specs.Scope.{Kind, Scope, declare, with_variable}
+use Rattle.mentat_cmd.specs.Scope.{Scope, declare, with_variable}
 use Rattle.mentat_cmd.specs.Variables.{kind_of, seen}
 use Rattle.mentat_cmd.specs.declared.scope.Variable.{Variable}
 use Rattle.mentat_cmd.specs.declared.scope.Variables.{Variables}

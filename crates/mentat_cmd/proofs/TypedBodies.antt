@@ -1,5 +1,5 @@
 -- The bodies of `main` and of members at whose nodes the seven rules hold.
-use Rattle.std.proofs.Common.{◌≡◌, ℕ, suc, ◌+◌, Bool, true, false, ◌&&◌, List, [], ◌∷◌, ◌++◌, map, length, Option, Some, None, is_some, if◌then◌else◌, refl, ap, ap₂, sym, subst, arith, ◌∙◌}
+use Rattle.std.proofs.Common.{◌≡◌, ℕ, suc, ◌+◌, Bool, true, false, ◌&&◌, List, [], ◌∷◌, ◌++◌, map, length, Option, Some, None, if◌then◌else◌, refl, ap, ap₂, sym, subst, arith, ◌∙◌}
 use Rattle.std.proofs.lemmas.List.Sums.{sum_by-append}
 use Rattle.std.specs.List.{list_all}
 use Rattle.std.specs.Prelude.{filter, nat_le}
@@ -13,18 +13,16 @@ use Rattle.mpl_mean.specs.FirstForm.{is_first_statement}
 use Rattle.mpl_mean.specs.FirstForm as first
 use Rattle.mpl_mean.specs.Layout.{dimension_of}
 use Rattle.mpl_mean.specs.Nodes.{Placed}
-use Rattle.mpl_mean.specs.Rules.{rule}
 use Rattle.mpl_mean.specs.Scopes.{Here}
-use Rattle.mpl_mean.specs.SizeRules.{variables_fit}
 use Rattle.mpl_mean.specs.StatementNodes.{Walks, action_walk, actions_walk, locals_among}
 use Rattle.mpl_mean.specs.Types.{Declared, meant, words_of_meant, words_of_variables}
 use Rattle.mpl_mean.proofs.FirstExpressions.{both_true}
-use Rattle.mentat_cmd.specs.Bodies.{behind, declares_number, main_fits, statements_fit}
+use Rattle.mentat_cmd.specs.Bodies.{behind, declares_number, statements_fit}
 use Rattle.mentat_cmd.specs.Scope.{Scope, no_variable}
 use Rattle.mentat_cmd.proofs.TypedCalls.{and_true_right}
-use Rattle.mentat_cmd.proofs.TypedNodes.{Agrees, by_one, held, held_append}
+use Rattle.mentat_cmd.proofs.TypedNodes.{Agrees, held, held_append}
 use Rattle.mentat_cmd.proofs.TypedScopes.{AllItems, main_here}
-use Rattle.mentat_cmd.proofs.TypedStatements.{Goes, Next, local_goes, locals_append, print_goes}
+use Rattle.mentat_cmd.proofs.TypedStatements.{Goes, local_goes, locals_append, print_goes}
 
 -- ---- a statement
 

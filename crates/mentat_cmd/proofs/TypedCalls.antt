@@ -1,5 +1,5 @@
 -- The nodes of calls at which the seven rules hold.
-use Rattle.std.proofs.Common.{◌≡◌, ℕ, suc, ◌+◌, Bool, true, false, ◌&&◌, ◌||◌, ◌==◌, List, [], ◌∷◌, ◌++◌, map, length, Option, Some, None, is_some, if◌then◌else◌, refl, ap, ap₂, sym, ◌∙◌}
+use Rattle.std.proofs.Common.{◌≡◌, ℕ, suc, ◌+◌, Bool, true, false, ◌&&◌, ◌||◌, ◌==◌, List, [], ◌∷◌, map, length, Option, Some, None, is_some, if◌then◌else◌, refl, ap, ap₂, ◌∙◌}
 use Rattle.std.specs.List.{list_all, list_any}
 use Rattle.std.specs.Option.{option_map, option_and_then}
 use Rattle.std.specs.Prelude.{is_none}
@@ -19,7 +19,7 @@ use Rattle.mpl_mean.specs.CallRules.{can_be_called, member_call_fits, member_tak
 use Rattle.mpl_mean.specs.FirstForm.{are_ints, is_first_flow, is_first_item, is_int, is_int_result, is_one_result, is_variable}
 use Rattle.mpl_mean.specs.Layout.{Member, formals_of, member_named, members_from}
 use Rattle.mpl_mean.specs.NameRules.{has_member, name_is_known}
-use Rattle.mpl_mean.specs.Nodes.{Placed, nodes_of_each, phrase_nodes}
+use Rattle.mpl_mean.specs.Nodes.{nodes_of_each, phrase_nodes}
 use Rattle.mpl_mean.specs.Phrases.{listed, phrase_of_flow}
 use Rattle.mpl_mean.specs.Phrases as phrase
 use Rattle.mpl_mean.specs.Rules.{rule}

@@ -7,7 +7,6 @@ use Rattle.std.specs.List.{list_all, list_any}
 use Rattle.std.specs.Prelude.{nat_le}
 use Rattle.std.specs.Str.{bytes_eq}
 use Rattle.mpl_ast.specs.declared.class.Formal.{Formal}
-use Rattle.mpl_ast.specs.declared.class.Item.{Item}
 use Rattle.mpl_ast.specs.declared.class.ResultType.{ResultType}
 use Rattle.mpl_ast.specs.declared.program.Declaration.{Declaration}
 use Rattle.mpl_ast.specs.declared.statement.Block.{Block, fold-Block}
@@ -32,7 +31,7 @@ use Rattle.mpl_mean.proofs.FirstActions.{flow_is_first}
 use Rattle.mpl_mean.proofs.FirstExpressions.{both_true}
 use Rattle.mpl_mean.proofs.FirstTypes.{AreFirstItems, no_state}
 use Rattle.mentat_cmd.specs.Bodies.{result_fits}
-use Rattle.mentat_cmd.specs.Scope.{ANumber, Kind, Scope, bound, no_variable}
+use Rattle.mentat_cmd.specs.Scope.{ANumber, Scope, bound, no_variable}
 use Rattle.mentat_cmd.proofs.TypedNodes.{Agrees, Describes, by_one, held, held_append, phrase_held}
 use Rattle.mentat_cmd.proofs.TypedStatements.{locals_append, phrase_locals}
 

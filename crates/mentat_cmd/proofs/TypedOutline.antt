@@ -1,11 +1,10 @@
 -- The nodes of a program's outline at which the seven rules hold.
-use Rattle.std.proofs.Common.{◌≡◌, ℕ, suc, ◌+◌, ◌≤◌, ◌==◌, Bool, true, false, not, ◌&&◌, ◌||◌, List, [], ◌∷◌, ◌++◌, map, length, Option, Some, None, refl, ap, ap₂, sym, arith, ◌∙◌}
+use Rattle.std.proofs.Common.{◌≡◌, ℕ, suc, ◌+◌, ◌≤◌, ◌==◌, Bool, true, false, not, ◌&&◌, ◌||◌, List, [], ◌∷◌, ◌++◌, map, length, Some, None, refl, ap, ap₂, sym, arith, ◌∙◌}
 use Rattle.std.proofs.lemmas.Bool.Decides.{nat_tests}
 use Rattle.std.specs.List.{list_all, list_any}
 use Rattle.std.specs.Prelude.{codes, nat_le}
 use Rattle.std.specs.Str.{bytes_eq}
 use Rattle.mpl_ast.specs.declared.class.Formal.{Formal}
-use Rattle.mpl_ast.specs.declared.class.Formals.{Formals}
 use Rattle.mpl_ast.specs.declared.class.Item.{Item}
 use Rattle.mpl_ast.specs.declared.class.Item.TheVariants as item
 use Rattle.mpl_ast.specs.declared.class.Kind.TheVariants.{Regular, Persistent}
@@ -26,7 +25,7 @@ use Rattle.mpl_mean.specs.ProgramNodes.{Before, declaration_at, declaration_node
 use Rattle.mpl_mean.specs.Rules.{rule}
 use Rattle.mpl_mean.specs.Scopes.{Here, at_top, in_class, is_main}
 use Rattle.mpl_mean.specs.SizeRules.{count_fits, most_declarations, most_formals, most_members}
-use Rattle.mpl_mean.specs.StatementNodes.{type_at, type_nodes}
+use Rattle.mpl_mean.specs.StatementNodes.{type_at}
 use Rattle.mpl_mean.specs.Types.{AsFormal, AsResult, Role}
 use Rattle.mpl_mean.proofs.FirstExpressions.{both_true}
 use Rattle.mpl_mean.proofs.FirstTypes.{AreFirstItems}

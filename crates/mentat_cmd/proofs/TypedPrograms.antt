@@ -1,5 +1,5 @@
 -- No type rule fails in a program of the first form exactly where it fits along its tree.
-use Rattle.std.proofs.Common.{◌≡◌, Bool, true, false, not, ◌&&◌, List, [], ◌∷◌, ◌++◌, map, Option, Some, None, if◌then◌else◌, refl, ap, ap₂, ◌∙◌}
+use Rattle.std.proofs.Common.{◌≡◌, Bool, true, false, not, ◌&&◌, List, [], ◌∷◌, map, Some, None, if◌then◌else◌, refl, ap, ap₂, ◌∙◌}
 use Rattle.std.proofs.lemmas.List.Folds.{list_all-append}
 use Rattle.std.specs.List.{list_all}
 use Rattle.std.specs.Prelude.{codes, flat_map, length, nat_le}
@@ -14,8 +14,8 @@ use Rattle.mpl_mean.specs.Actions.{actions_of}
 use Rattle.mpl_mean.specs.FirstForm.{are_first, are_ints, is_class, is_first_form, is_first_item, is_first_statement, is_int, is_int_result, is_one_result}
 use Rattle.mpl_mean.specs.FirstForm as first
 use Rattle.mpl_mean.specs.Layout.{formals_of}
-use Rattle.mpl_mean.specs.ProgramNodes.{Inside, OfRoutine, heres, inner_nodes, inners, inside_class, inside_declaration, inside_item, insides, nodes, nodes_inside, outline_nodes, surrounding}
-use Rattle.mpl_mean.specs.Rules.{Failure, first_rules, is_empty, is_typed, rule}
+use Rattle.mpl_mean.specs.ProgramNodes.{Inside, OfRoutine, heres, inner_nodes, inners, inside_declaration, inside_item, insides, nodes, nodes_inside, outline_nodes, surrounding}
+use Rattle.mpl_mean.specs.Rules.{is_empty, is_typed, rule}
 use Rattle.mpl_mean.specs.Scopes.{Body, Surrounding, InFunction, InMain, at_top, in_body, in_class, is_main}
 use Rattle.mpl_mean.specs.SizeRules.{most_declarations, most_formals, most_members, most_words_of_variables, variables_fit}
 use Rattle.mpl_mean.specs.StatementNodes.{locals_among}

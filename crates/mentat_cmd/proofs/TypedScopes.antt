@@ -1,21 +1,21 @@
 -- The variables of `main`, and what is known of them.
-use Rattle.std.proofs.Common.{◌≡◌, ℕ, Bool, true, false, not, ◌&&◌, ◌||◌, List, [], ◌∷◌, ◌++◌, map, cond, Option, Some, None, is_some, if◌then◌else◌, refl, ap, ap₂, sym, subst, ◌∙◌}
+use Rattle.std.proofs.Common.{◌≡◌, ℕ, Bool, true, false, not, ◌||◌, List, [], ◌∷◌, ◌++◌, cond, Option, Some, None, is_some, if◌then◌else◌, refl, ap, ap₂, sym, subst, ◌∙◌}
 use Rattle.std.proofs.lemmas.List.{append-nil}
 use Rattle.std.proofs.lemmas.Slice.Eq.{bytes_eq-Decides}
-use Rattle.std.specs.List.{list_all, list_any}
+use Rattle.std.specs.List.{list_any}
 use Rattle.std.specs.Str.{bytes_eq}
 use Rattle.mpl_ast.specs.declared.class.Item.{Item}
 use Rattle.mpl_ast.specs.declared.class.Kind.TheVariants.{Regular, Persistent}
 use Rattle.mpl_ast.specs.declared.program.Declaration.{Declaration}
 use Rattle.mpl_ast.specs.declared.program.Declaration.TheVariants as declaration
-use Rattle.mpl_mean.specs.FirstForm.{are_first, is_class, is_first_item, is_main}
+use Rattle.mpl_mean.specs.FirstForm.{are_first, is_class, is_main}
 use Rattle.mpl_mean.specs.NameRules.{is_meant}
 use Rattle.mpl_mean.specs.Scopes.{Here, InMain, names_beside, variable_of}
 use Rattle.mpl_mean.specs.Types.{AClass, ARegular, AsLocal, Declared, Meant, Nothing, first_named, meant_by, names, shape_of_meant, words_of_meant}
 use Rattle.mpl_mean.proofs.FirstExpressions.{both_true}
 use Rattle.mpl_mean.proofs.FirstTypes.{AreFirstItems}
 use Rattle.mentat_cmd.specs.Bodies.{class_items}
-use Rattle.mentat_cmd.specs.Scope.{Kind, AnObject, Scope, declare, with_variable}
+use Rattle.mentat_cmd.specs.Scope.{Kind, Scope, declare, with_variable}
 use Rattle.mentat_cmd.proofs.TypedNodes.{Agrees, Describes}
 
 -- ---- classes

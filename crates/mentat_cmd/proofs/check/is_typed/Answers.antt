@@ -1,4 +1,4 @@
-use Rattle.std.proofs.Common.{Bool, sym, subst, Result, Ok, Err, IfOk, ◌≡◌, ◌∙◌}
+use Rattle.std.proofs.Common.{Bool, sym, Result, Ok, Err, IfOk, ◌≡◌, ◌∙◌}
 use Rattle.mentat_cmd.proofs.TypedPrograms.{typed_fits}
 use Rattle.mentat_cmd.proofs.check.is_typed.Goals as goal
 

@@ -35,15 +35,15 @@ ill_typed source q tokens one_tree lexed built spelled ill p s =
 
 pub returns-then-not-branch : goal.returns-then-not-branch
 returns-then-not-branch c =
-    ill_typed c.args.source.now c.in-Ok-parse.program c.in-Ok-lex.tokens.list c.tokens_have_one_tree.ensures
-    c.in-Ok-lex.ensures.tokens.0 c.in-Ok-parse.ensures.built c.in-Ok-parse.ensures.text (sym c.in_ok-is_typed.ensures ∙ c.if-not-branch.true)
+    ill_typed c.args.source.now c.in-Ok-parse.program c.in-Ok.tokens.list c.tokens_have_one_tree.ensures
+    c.in-Ok.ensures.tokens.0 c.in-Ok-parse.ensures.built c.in-Ok-parse.ensures.text (sym c.in_ok-is_typed.ensures ∙ c.if-not-branch.true)
 
 pub returns-in-Ok-walk : goal.returns-in-Ok-walk
 returns-in-Ok-walk c =
     let spelled : Spells c.args.source.now c.in-Ok-parse.program = record {
-      tokens = c.in-Ok-lex.tokens.list;
+      tokens = c.in-Ok.tokens.list;
       short = c.requires;
-      lexed = c.in-Ok-lex.ensures.tokens.0;
+      lexed = c.in-Ok.ensures.tokens.0;
       spelled = c.in-Ok-parse.ensures.text;
       light = c.in-Ok-parse.ensures.light;
       built = c.in-Ok-parse.ensures.built;

@@ -1,4 +1,4 @@
-use Rattle.std.proofs.Common.{◌≡◌, ◌+◌, List, ℕ, drop, arith, sym, ap, ◌∙◌}
+use Rattle.std.proofs.Common.{◌+◌, List, ℕ, drop, arith, sym, ap, ◌∙◌}
 use Rattle.mentat_cmd.specs.Scope.{ANumber, Scope, bound, with_variable}
 use Rattle.mentat_cmd.specs.Variables.{seen}
 use Rattle.mentat_cmd.proofs.Lists.{next_left, none_left}
