@@ -5,7 +5,7 @@ ghost use Rattle.mpl_mean.specs.DirectRun.{main_start};
 use crate::check::is_typed;
 use crate::parser::{ParseFault, parse};
 use mpl_lexer::{LexFault, lex};
-use mpl_mean::{tokens_are_few, tokens_have_one_tree};
+use mpl_mean::{Typed, tokens_are_few, tokens_have_one_tree};
 use mpl_value::{BodyStart, NoMemory, Replies, Words, Yield};
 use mpl_walk::walk;
 use std::alloc::Global;
@@ -51,9 +51,10 @@ pub fn run(alloc: Global, source: &[u8]) -> Result<Yield, Refusal>
     if !is_typed(alloc, &program)? {
         return Err(Refusal::Unbuilt);
     }
+    let typed = Typed::of(program);
     let start = start_of_main(alloc);
     let replies = Replies::new(alloc);
-    match walk(alloc, &program, &start, &replies, BUDGET) {
+    match walk(alloc, typed.program(), &start, &replies, BUDGET) {
         Ok(done) => Ok(done),
         Err(NoMemory) => Err(Refusal::NoMemory),
     }

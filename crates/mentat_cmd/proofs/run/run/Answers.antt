@@ -49,6 +49,9 @@ returns-in-Ok-walk c =
       built = c.in-Ok-parse.ensures.built;
       typed = sym c.in_ok-is_typed.ensures ∙ c.if-not-branch.false;
     } in
+    let same : c.program.result.now ≡ c.in-Ok-parse.program = c.program.ensures.same ∙ c.of-typed.ensures in
+    let walked : c.in-Ok-walk.done ≡ yield_of c.in-Ok-parse.program c.start_of_main-start.result c.new-replies.result 1000000 =
+    c.in-Ok-walk.ensures.meaning ∙ ap (λ (p : Program). yield_of p c.start_of_main-start.result c.new-replies.result 1000000) same in
     let yield : c.in-Ok-walk.done ≡ direct_run c.in-Ok-parse.program [] 1000000 =
-    runs_directly c.in-Ok-parse.program c.in-Ok-walk.done c.start_of_main-start.result c.new-replies.result 1000000 c.in-Ok-walk.ensures.meaning c.start_of_main-start.ensures c.new-replies.ensures in
+    runs_directly c.in-Ok-parse.program c.in-Ok-walk.done c.start_of_main-start.result c.new-replies.result 1000000 walked c.start_of_main-start.ensures c.new-replies.ensures in
     record { program = c.in-Ok-parse.program; source_is = spelled; yield = yield }
