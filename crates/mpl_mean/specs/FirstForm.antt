@@ -1,7 +1,7 @@
 -- The first form of programs: regular classes whose members give one expression, and `int main()` whose statements
 -- declare variables of a class, keep results of calls, and print. An expression is of numbers and names, with `+`, `-`
 -- and `*`.
-use Rattle.std.specs.Prelude.{ℕ, Bool, true, false, ◌&&◌, List, [], ◌∷◌, codes, Option, None, Some}
+use Rattle.std.specs.Prelude.{Bool, true, false, ◌&&◌, List, [], ◌∷◌, codes, Option, None, Some}
 use Rattle.std.specs.List.{list_all}
 use Rattle.std.specs.Str.{bytes_eq}
 use Rattle.mpl_ast.specs.declared.class.Formal.{Formal}
@@ -34,7 +34,7 @@ use Rattle.mpl_ast.specs.declared.expression.TermOperator.TheVariants as term
 use Rattle.mpl_ast.specs.declared.program.Declaration.{Declaration}
 use Rattle.mpl_ast.specs.declared.program.Declaration.TheVariants as declaration
 use Rattle.mpl_ast.specs.declared.program.Program.{Program}
-use Rattle.mpl_ast.specs.declared.statement.Block.{Block, Block-F}
+use Rattle.mpl_ast.specs.declared.statement.Block.{Block-F}
 use Rattle.mpl_ast.specs.declared.statement.Statement.{Statement, fold-Statement}
 use Rattle.mpl_ast.specs.declared.statement.Statement.TheOpen.{Statement-F}
 use Rattle.mpl_ast.specs.declared.statement.TypeName.{TypeName}
