@@ -33,12 +33,14 @@ use Rattle.mpl_mean.specs.Weight as weight
 use Rattle.mpl_mean.specs.Weight.{Weighs, plain, binary, place_weighs}
 use Rattle.std.specs.Prelude.{ℤ}
 use Rattle.mentat_cmd.specs.Ahead.{first_is, is_operand, is_operator, operators_ahead, operators_behind}
-use Rattle.mentat_cmd.specs.Parts.{primary_text, unary_text, term_text, sum_text, all_light, is_light_expression}
+use Rattle.mpl_mean.specs.ExpressionLevels.{primary_text, unary_text, term_text, sum_text}
+use Rattle.mentat_cmd.specs.Parts.{all_light, is_light_expression}
 use Rattle.mentat_cmd.specs.Stages.{Stage, BeforeOperand, BehindOperand, BehindExpression, Refused, leads, brackets, most_operators, behind_expression}
 use Rattle.mentat_cmd.specs.declared.expression.Role.{Role}
 use Rattle.mentat_cmd.specs.declared.expression.Role.TheVariants.{Printed, Passed, Returned}
-use Rattle.mentat_cmd.proofs.Steps.{parts_read, token_taken, mark_taken, both_read, and_true}
+use Rattle.mentat_cmd.proofs.Steps.{parts_read, token_taken, mark_taken, both_read}
 use Rattle.mentat_cmd.proofs.Operands.{leads-expression, leads-stops}
+use Rattle.mpl_mean.proofs.Truth.{both_true, and_true_right, or_left, or_right}
 
 -- the tokens are an operand, and so many times an operator and an operand, and then those that are left
 pub record Chain (n : ℕ) (tokens left : List Token) : Type 0 where
@@ -72,15 +74,11 @@ leads-operand role false k ts h = absurd cc
 Chain-operand : (t : Token) (ts : List Token) → is_operand t.kind ≡ true → Chain 0 (t ∷ ts) ts
 Chain-operand t ts h = record { first = h; operators = omega arith; led = λ role k _. leads-operand role (is_operand t.kind) k ts h }
 
-light-plain : (b : Bool) → (b && true) ≡ b
-light-plain true = refl
-light-plain false = refl
-
 Fits-operand : (at : At) (test : Token → Bool) → ((t : Token) → test t ≡ true → is_operand t.kind ≡ true) → Fits (node at (token test)) plain
 Fits-operand at test is = record {
   count = 0;
   after = λ w. sym (add-zero w);
-  light = λ w. light-plain (nat_le w 64) ∙ ap (λ n. nat_le n 64) (sym (add-zero w));
+  light = λ w. and_true_right (nat_le w 64) ∙ ap (λ n. nat_le n 64) (sym (add-zero w));
   chain = λ r x h.
       let p = token_taken test r.tokens (r.next + 1) x (parts_read at (token test) r x h) in
       subst (λ ts. Chain 0 ts x.tokens) (sym p.1) (Chain-operand p.0 x.tokens (is p.0 p.2));
@@ -103,7 +101,7 @@ operand-name text (kind.Mark k) h = h
 
 Fits-name : (at : At) (n : Name) → Fits (node at (name n)) plain
 Fits-name at n =
-    Fits-operand at (λ t. is_name n.text t.kind && (t.span.from == n.from)) (λ t h. operand-name n.text t.kind (and_true (is_name n.text t.kind) (t.span.from == n.from) h).0)
+    Fits-operand at (λ t. is_name n.text t.kind && (t.span.from == n.from)) (λ t h. operand-name n.text t.kind (both_true (is_name n.text t.kind) (t.span.from == n.from) h).0)
 
 -- ---- a node around an expression
 
@@ -167,17 +165,9 @@ Fits-binary at line m s t v w op f g = record {
 is_operator-times : IsOperator m.Star
 is_operator-times k h = rw h refl
 
-or-second : (a b : Bool) → b ≡ true → (a || b) ≡ true
-or-second true b h = refl
-or-second false b h = h
-
-or-first : (a b : Bool) → a ≡ true → (a || b) ≡ true
-or-first true b h = refl
-or-first false b h = absurd cc
-
 is_operator-sum : (o : SumOperator) → IsOperator (text.sum_mark o)
-is_operator-sum sum.Plus k h = or-second _ _ (or-first _ _ h)
-is_operator-sum sum.Minus k h = or-second _ _ (or-second _ _ h)
+is_operator-sum sum.Plus k h = or_right _ _ (or_left _ _ h)
+is_operator-sum sum.Minus k h = or_right _ _ (or_right _ _ h)
 
 -- ---- each part of an expression
 
@@ -304,11 +294,11 @@ relation_layer (Relation-F.Compare at line e o f) = Fit-along _ _ _ _ _ _ (fold-
 
 sum_layer : (y : Sum-F Fit-Conjunction Fit-Equality Fit-Expression Fit-Place Fit-Primary Fit-Relation Fit-Sum Fit-Term Fit-Unary) → Sum-fit (roll-Sum (map-Sum Fit-Conjunction Fit-Equality Fit-Expression Fit-Place Fit-Primary Fit-Relation Fit-Sum Fit-Term Fit-Unary Conjunction Equality Expression Place Primary Relation Sum Term Unary (λ e. e.0) (λ e. e.0) (λ e. e.0) (λ e. e.0) (λ e. e.0) (λ e. e.0) (λ e. e.0) (λ e. e.0) (λ e. e.0) y))
 sum_layer (Sum-F.OneTerm at e) = Fit-along _ _ _ _ _ _ (fold-roll-Sum Bool Bool Bool Bool Bool Bool Bool Bool Bool form.conjunction_step form.equality_step form.expression_step form.place_step form.primary_step form.relation_step form.sum_step form.term_step form.unary_step (Sum-F.OneTerm at e.0)) (fold-roll-Sum Reads Reads Reads Reads Reads Reads Reads Reads Reads text.conjunction_step text.equality_step text.expression_step text.place_step text.primary_step text.relation_step text.sum_step text.term_step text.unary_step (Sum-F.OneTerm at e.0)) (fold-roll-Sum Weighs Weighs Weighs Weighs Weighs Weighs Weighs Weighs Weighs weight.conjunction_step weight.equality_step weight.expression_step weight.place_step weight.primary_step weight.relation_step weight.sum_step weight.term_step weight.unary_step (Sum-F.OneTerm at e.0)) (λ h. Fits-node at _ _ (e.1 h))
-sum_layer (Sum-F.Add at line e o f) = Fit-along _ _ _ _ _ _ (fold-roll-Sum Bool Bool Bool Bool Bool Bool Bool Bool Bool form.conjunction_step form.equality_step form.expression_step form.place_step form.primary_step form.relation_step form.sum_step form.term_step form.unary_step (Sum-F.Add at line e.0 o f.0)) (fold-roll-Sum Reads Reads Reads Reads Reads Reads Reads Reads Reads text.conjunction_step text.equality_step text.expression_step text.place_step text.primary_step text.relation_step text.sum_step text.term_step text.unary_step (Sum-F.Add at line e.0 o f.0)) (fold-roll-Sum Weighs Weighs Weighs Weighs Weighs Weighs Weighs Weighs Weighs weight.conjunction_step weight.equality_step weight.expression_step weight.place_step weight.primary_step weight.relation_step weight.sum_step weight.term_step weight.unary_step (Sum-F.Add at line e.0 o f.0)) (λ h. let p = and_true _ _ h in Fits-binary at line (text.sum_mark o) _ _ _ _ (is_operator-sum o) (e.1 p.0) (f.1 p.1))
+sum_layer (Sum-F.Add at line e o f) = Fit-along _ _ _ _ _ _ (fold-roll-Sum Bool Bool Bool Bool Bool Bool Bool Bool Bool form.conjunction_step form.equality_step form.expression_step form.place_step form.primary_step form.relation_step form.sum_step form.term_step form.unary_step (Sum-F.Add at line e.0 o f.0)) (fold-roll-Sum Reads Reads Reads Reads Reads Reads Reads Reads Reads text.conjunction_step text.equality_step text.expression_step text.place_step text.primary_step text.relation_step text.sum_step text.term_step text.unary_step (Sum-F.Add at line e.0 o f.0)) (fold-roll-Sum Weighs Weighs Weighs Weighs Weighs Weighs Weighs Weighs Weighs weight.conjunction_step weight.equality_step weight.expression_step weight.place_step weight.primary_step weight.relation_step weight.sum_step weight.term_step weight.unary_step (Sum-F.Add at line e.0 o f.0)) (λ h. let p = both_true _ _ h in Fits-binary at line (text.sum_mark o) _ _ _ _ (is_operator-sum o) (e.1 p.0) (f.1 p.1))
 
 term_layer : (y : Term-F Fit-Conjunction Fit-Equality Fit-Expression Fit-Place Fit-Primary Fit-Relation Fit-Sum Fit-Term Fit-Unary) → Term-fit (roll-Term (map-Term Fit-Conjunction Fit-Equality Fit-Expression Fit-Place Fit-Primary Fit-Relation Fit-Sum Fit-Term Fit-Unary Conjunction Equality Expression Place Primary Relation Sum Term Unary (λ e. e.0) (λ e. e.0) (λ e. e.0) (λ e. e.0) (λ e. e.0) (λ e. e.0) (λ e. e.0) (λ e. e.0) (λ e. e.0) y))
 term_layer (Term-F.OneUnary at e) = Fit-along _ _ _ _ _ _ (fold-roll-Term Bool Bool Bool Bool Bool Bool Bool Bool Bool form.conjunction_step form.equality_step form.expression_step form.place_step form.primary_step form.relation_step form.sum_step form.term_step form.unary_step (Term-F.OneUnary at e.0)) (fold-roll-Term Reads Reads Reads Reads Reads Reads Reads Reads Reads text.conjunction_step text.equality_step text.expression_step text.place_step text.primary_step text.relation_step text.sum_step text.term_step text.unary_step (Term-F.OneUnary at e.0)) (fold-roll-Term Weighs Weighs Weighs Weighs Weighs Weighs Weighs Weighs Weighs weight.conjunction_step weight.equality_step weight.expression_step weight.place_step weight.primary_step weight.relation_step weight.sum_step weight.term_step weight.unary_step (Term-F.OneUnary at e.0)) (λ h. Fits-node at _ _ (e.1 h))
-term_layer (Term-F.Multiply at line e term.Times f) = Fit-along _ _ _ _ _ _ (fold-roll-Term Bool Bool Bool Bool Bool Bool Bool Bool Bool form.conjunction_step form.equality_step form.expression_step form.place_step form.primary_step form.relation_step form.sum_step form.term_step form.unary_step (Term-F.Multiply at line e.0 term.Times f.0)) (fold-roll-Term Reads Reads Reads Reads Reads Reads Reads Reads Reads text.conjunction_step text.equality_step text.expression_step text.place_step text.primary_step text.relation_step text.sum_step text.term_step text.unary_step (Term-F.Multiply at line e.0 term.Times f.0)) (fold-roll-Term Weighs Weighs Weighs Weighs Weighs Weighs Weighs Weighs Weighs weight.conjunction_step weight.equality_step weight.expression_step weight.place_step weight.primary_step weight.relation_step weight.sum_step weight.term_step weight.unary_step (Term-F.Multiply at line e.0 term.Times f.0)) (λ h. let p = and_true _ _ h in Fits-binary at line m.Star _ _ _ _ is_operator-times (e.1 (and_true _ _ p.0).0) (f.1 p.1))
+term_layer (Term-F.Multiply at line e term.Times f) = Fit-along _ _ _ _ _ _ (fold-roll-Term Bool Bool Bool Bool Bool Bool Bool Bool Bool form.conjunction_step form.equality_step form.expression_step form.place_step form.primary_step form.relation_step form.sum_step form.term_step form.unary_step (Term-F.Multiply at line e.0 term.Times f.0)) (fold-roll-Term Reads Reads Reads Reads Reads Reads Reads Reads Reads text.conjunction_step text.equality_step text.expression_step text.place_step text.primary_step text.relation_step text.sum_step text.term_step text.unary_step (Term-F.Multiply at line e.0 term.Times f.0)) (fold-roll-Term Weighs Weighs Weighs Weighs Weighs Weighs Weighs Weighs Weighs weight.conjunction_step weight.equality_step weight.expression_step weight.place_step weight.primary_step weight.relation_step weight.sum_step weight.term_step weight.unary_step (Term-F.Multiply at line e.0 term.Times f.0)) (λ h. let p = both_true _ _ h in Fits-binary at line m.Star _ _ _ _ is_operator-times (e.1 (both_true _ _ p.0).0) (f.1 p.1))
 term_layer (Term-F.Multiply at line e term.Over f) = Fit-along _ _ _ _ _ _ (fold-roll-Term Bool Bool Bool Bool Bool Bool Bool Bool Bool form.conjunction_step form.equality_step form.expression_step form.place_step form.primary_step form.relation_step form.sum_step form.term_step form.unary_step (Term-F.Multiply at line e.0 term.Over f.0)) (fold-roll-Term Reads Reads Reads Reads Reads Reads Reads Reads Reads text.conjunction_step text.equality_step text.expression_step text.place_step text.primary_step text.relation_step text.sum_step text.term_step text.unary_step (Term-F.Multiply at line e.0 term.Over f.0)) (fold-roll-Term Weighs Weighs Weighs Weighs Weighs Weighs Weighs Weighs Weighs weight.conjunction_step weight.equality_step weight.expression_step weight.place_step weight.primary_step weight.relation_step weight.sum_step weight.term_step weight.unary_step (Term-F.Multiply at line e.0 term.Over f.0)) (λ h. absurd (and-false _ _ h))
 term_layer (Term-F.Multiply at line e term.Modulo f) = Fit-along _ _ _ _ _ _ (fold-roll-Term Bool Bool Bool Bool Bool Bool Bool Bool Bool form.conjunction_step form.equality_step form.expression_step form.place_step form.primary_step form.relation_step form.sum_step form.term_step form.unary_step (Term-F.Multiply at line e.0 term.Modulo f.0)) (fold-roll-Term Reads Reads Reads Reads Reads Reads Reads Reads Reads text.conjunction_step text.equality_step text.expression_step text.place_step text.primary_step text.relation_step text.sum_step text.term_step text.unary_step (Term-F.Multiply at line e.0 term.Modulo f.0)) (fold-roll-Term Weighs Weighs Weighs Weighs Weighs Weighs Weighs Weighs Weighs weight.conjunction_step weight.equality_step weight.expression_step weight.place_step weight.primary_step weight.relation_step weight.sum_step weight.term_step weight.unary_step (Term-F.Multiply at line e.0 term.Modulo f.0)) (λ h. absurd (and-false _ _ h))
 

@@ -23,13 +23,13 @@ use Rattle.mpl_mean.specs.Weight.{Weighs, call_weighs, declaration_weighs, decla
 use Rattle.mentat_cmd.proofs.Forms.{first_statement, result_statement, first_flow, call_flow, first_call}
 use Rattle.mentat_cmd.proofs.ExpressionTexts.{flow_weighs-expression}
 use Rattle.mentat_cmd.proofs.Layers.{is_first_statement-declare, gives_result-rtf, is_call-call, is_first_call-target}
-use Rattle.mentat_cmd.proofs.Steps.{and_true}
 use Rattle.mentat_cmd.proofs.Weights.{Closes, AllClose, closes-print, closes-rtf, closes-call, closes-call_flow, closes-declare, closes-block, closes-member, closes-class, closes-main}
+use Rattle.mpl_mean.proofs.Truth.{both_true}
 
 pub all_close : {A : Type 0} (p : A → Bool) (f : A → Weighs) → ((x : A) → p x ≡ true → Closes (f x)) → (xs : List A) → list_all p xs ≡ true → AllClose f xs
 all_close p f one [] h = tt
 all_close p f one (x ∷ xs) h =
-    let both = and_true (p x) (list_all p xs) h in
+    let both = both_true (p x) (list_all p xs) h in
     (one x both.0, all_close p f one xs both.1)
 
 -- ---- calls
@@ -44,7 +44,7 @@ pub closes-first_call : (c : Call) → is_first_call c ≡ true → Closes (call
 closes-first_call c h = first_call (λ k. is_first_call k ≡ true → Closes (call_weighs k)) on_target c h h where
   on_target : (at : At) (t : Target) (n : Name) (fs : List Flow) → is_first_call (call.OnTarget at t n fs) ≡ true → Closes (call_weighs (call.OnTarget at t n fs))
   on_target at t n fs i =
-      let both = and_true (is_variable t) (list_all is_first_flow fs) (sym (is_first_call-target at t n fs) ∙ i) in
+      let both = both_true (is_variable t) (list_all is_first_flow fs) (sym (is_first_call-target at t n fs) ∙ i) in
       closes-call at t n fs both.0 (closes-flows fs both.1)
 
 pub closes-result_flow : (f : Flow) → is_call (out-Flow f) ≡ true → Closes (flow_weighs f)
@@ -55,7 +55,7 @@ closes-result_flow f h = call_flow (λ g. is_call (out-Flow g) ≡ true → Clos
 -- ---- variables
 
 int-and : (a b : Bool) → (a && b) ≡ true → b ≡ true
-int-and a b h = (and_true a b h).1
+int-and a b h = (both_true a b h).1
 
 pub closes-declarator : (t : TypeName) (d : Declarator) → is_first_declarator t d ≡ true → Closes (declarator_weighs d)
 closes-declarator t (declarator.Plain at n None) h w = refl
@@ -92,7 +92,7 @@ closes-one_result (s ∷ t ∷ ss) h = absurd cc
 pub closes-item : (i : Item) → is_first_item i ≡ true → Closes (item_weighs i)
 closes-item (item.OfField at field) h w = absurd cc
 closes-item (item.Member at result n fs b) h w =
-    closes-member at result n fs b (closes-block b (closes-one_result b.statements (and_true (is_int_result result && are_ints fs) (is_one_result b.statements) h).1)) w
+    closes-member at result n fs b (closes-block b (closes-one_result b.statements (both_true (is_int_result result && are_ints fs) (is_one_result b.statements) h).1)) w
 closes-item (item.Select at line entries) h w = absurd cc
 closes-item (item.Public at) h w = absurd cc
 closes-item (item.Private at) h w = absurd cc
@@ -104,7 +104,7 @@ closes-items = all_close is_first_item item_weighs closes-item
 pub closes-first_class : (d : Declaration) → is_class d ≡ true → Closes (declaration_weighs d)
 closes-first_class (declaration.Struct at line n fields) h w = absurd cc
 closes-first_class (declaration.Class at line kind n items) h w =
-    closes-class at line kind n items (closes-items items (and_true (is_regular kind) (list_all is_first_item items) h).1) w
+    closes-class at line kind n items (closes-items items (both_true (is_regular kind) (list_all is_first_item items) h).1) w
 closes-first_class (declaration.Function at t n fs b) h w = absurd cc
 
 with_formals : (a b : Bool) → ((a && false) && b) ≡ true → ⊥
@@ -115,12 +115,12 @@ closes-first_main : (d : Declaration) → is_main d ≡ true → Closes (declara
 closes-first_main (declaration.Struct at line n fields) h w = absurd cc
 closes-first_main (declaration.Class at line kind n items) h w = absurd cc
 closes-first_main (declaration.Function at t n None b) h w =
-    closes-main at t n b (closes-block b (closes-statements b.statements (and_true _ (list_all is_first_statement b.statements) h).1)) w
+    closes-main at t n b (closes-block b (closes-statements b.statements (both_true _ (list_all is_first_statement b.statements) h).1)) w
 closes-first_main (declaration.Function at t n (Some fs) b) h w = absurd (with_formals _ _ h)
 
 pub closes-declarations : (ds : List Declaration) → are_first ds ≡ true → AllClose declaration_weighs ds
 closes-declarations [] h = absurd cc
 closes-declarations (d ∷ []) h = (closes-first_main d h, tt)
 closes-declarations (d ∷ e ∷ ds) h =
-    let both = and_true (is_class d) (are_first (e ∷ ds)) h in
+    let both = both_true (is_class d) (are_first (e ∷ ds)) h in
     (closes-first_class d both.0, closes-declarations (e ∷ ds) both.1)

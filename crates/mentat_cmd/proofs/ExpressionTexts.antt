@@ -30,7 +30,7 @@ use Rattle.mpl_mean.specs.StatementText as statements
 use Rattle.mpl_mean.specs.StatementText.{flow_text}
 use Rattle.mpl_mean.specs.Weight as weight
 use Rattle.mpl_mean.specs.Weight.{Weighs, expression_weighs, flow_weighs}
-use Rattle.mentat_cmd.specs.Parts.{sum_text, term_text, unary_text}
+use Rattle.mpl_mean.specs.ExpressionLevels.{sum_text, term_text, unary_text}
 use Rattle.mentat_cmd.specs.Reader.{at_of}
 use Rattle.mentat_cmd.specs.declared.reader.Start.{Start}
 use Rattle.mentat_cmd.proofs.Parsed.{Begins, reads-begun, reads-both}

@@ -18,9 +18,7 @@ use Rattle.mpl_ast.specs.declared.statement.Statement.TheVariants as statement
 use Rattle.mpl_mean.specs.FirstForm as first
 use Rattle.mentat_cmd.proofs.Layers.{is_call-expression}
 use Rattle.mpl_mean.specs.FirstForm.{gives_result, is_call, is_first_call, is_first_flow, is_first_statement}
-
-never : {A : Type 0} (b : Bool) → b ≡ false → b ≡ true → A
-never b e h = absurd cc
+use Rattle.mpl_mean.proofs.Truth.{never}
 
 -- ---- statements
 

@@ -17,19 +17,9 @@ use Rattle.mpl_mean.specs.Reading.{Rest, mark, mark_on, keyword, name, is_mark, 
 use Rattle.mpl_mean.specs.StatementText.{type_text}
 use Rattle.mentat_cmd.specs.Ahead.{first_is}
 use Rattle.mentat_cmd.specs.Stages.{Stage, leads, stage_behind}
-use Rattle.mentat_cmd.proofs.Steps.{parts_read, token_taken, mark_taken, and_true}
-
-pub mark_is : (m : Mark) (k : TokenKind) → is_mark m k ≡ true → k ≡ kind.Mark m
-mark_is m (kind.Name text) h = absurd cc
-mark_is m (kind.Number n) h = absurd cc
-mark_is m (kind.Keyword w) h = absurd cc
-mark_is m (kind.Mark n) h = ap kind.Mark (same_true marks.the_type tt n m h)
-
-pub keyword_is : (w : Keyword) (k : TokenKind) → is_keyword w k ≡ true → k ≡ kind.Keyword w
-keyword_is w (kind.Name text) h = absurd cc
-keyword_is w (kind.Number n) h = absurd cc
-keyword_is w (kind.Keyword v) h = ap kind.Keyword (same_true keywords.the_type tt v w h)
-keyword_is w (kind.Mark m) h = absurd cc
+use Rattle.mentat_cmd.proofs.Steps.{parts_read, token_taken, mark_taken}
+use Rattle.mpl_mean.proofs.Truth.{both_true}
+use Rattle.mpl_mean.proofs.BothReadTokens.{mark_is, keyword_is}
 
 pub name_is : (text : List ℕ) (k : TokenKind) → is_name text k ≡ true → (other : List ℕ) × (k ≡ kind.Name other)
 name_is text (kind.Name other) h = (other, refl)
@@ -59,7 +49,7 @@ led-keyword s t w r x e h =
 pub led-name : (s t : Stage) (n : Name) (r x : Rest) → ((text : List ℕ) → stage_behind s (kind.Name text) ≡ t) → name n r ≡ Some x → leads s r.tokens ≡ leads t x.tokens
 led-name s t n r x e h =
     let p = token_taken (λ o. is_name n.text o.kind && (o.span.from == n.from)) r.tokens r.next x h in
-    let k = name_is n.text p.0.kind (and_true _ _ p.2).0 in
+    let k = name_is n.text p.0.kind (both_true _ _ p.2).0 in
     led-token s t p.0 r x p.1 (ap (λ z. stage_behind s z) k.1 ∙ e k.0)
 
 pub led-int : (s t : Stage) (type_name : TypeName) (r x : Rest) → stage_behind s (kind.Keyword word.Int) ≡ t → is_int type_name ≡ true → type_text type_name r ≡ Some x → leads s r.tokens ≡ leads t x.tokens

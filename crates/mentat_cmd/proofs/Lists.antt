@@ -3,12 +3,7 @@ use Rattle.std.proofs.Common.{◌≡◌, ℕ, suc, ◌+◌, ◌<◌, ◌≤◌, 
 use Rattle.std.specs.List.{list_all, list_any}
 use Rattle.std.specs.Prelude.{filter, if◌then◌else◌}
 use Rattle.std.proofs.lemmas.List.{at_drop_more, at_drop_all}
-
-pub next_left : {X : Type 0} (xs : List X) (i : ℕ) (x : X) → i < length xs → x ≡ get_or xs i x → drop i xs ≡ x ∷ drop (i + 1) xs
-next_left xs i x below is = at_drop_more (λ all. all) xs i x below ∙ ap (λ e. e ∷ drop (i + 1) xs) (sym is)
-
-pub none_left : {X : Type 0} (xs : List X) (i : ℕ) → length xs ≤ i → drop i xs ≡ []
-none_left xs i past = at_drop_all (λ all. all) xs i past
+use Rattle.mpl_walk.proofs.Lists.{next_left, none_left}
 
 -- ---- tests of all items
 
@@ -36,7 +31,7 @@ any_mapped test f (x ∷ xs) = ap (λ b. test (f x) || b) (any_mapped test f xs)
 
 -- ---- how many pass
 
-shifted : (n m : ℕ) → (n + 1) + m ≡ n + suc m
+pub shifted : (n m : ℕ) → (n + 1) + m ≡ n + suc m
 shifted n m = omega arith
 
 pub one_more : {X : Type 0} (test : X → Bool) (n total : ℕ) (left rest : List X) (x : X) → left ≡ x ∷ rest → test x ≡ true

@@ -2,7 +2,7 @@
 use Rattle.std.proofs.Common.{◌≡◌, ℕ, ◌+◌, ◌<◌, ◌≤◌, Bool, true, false, ◌&&◌, List, [], ◌∷◌, ◌++◌, length, take, drop, map, get_or, ap, sym, ◌∙◌}
 use Rattle.std.proofs.lemmas.List.{map-append, take_more}
 use Rattle.mentat_cmd.specs.Outline.{are_distinct, are_new, is_new}
-use Rattle.mentat_cmd.proofs.Lists.{next_left, none_left}
+use Rattle.mpl_walk.proofs.Lists.{next_left, none_left}
 
 module _ {X : Type 0} (name : X → List ℕ) (xs : List X) where
   named_so_far : (i : ℕ) (x : X) → i < length xs → x ≡ get_or xs i x → map name (take (i + 1) xs) ≡ map name (take i xs) ++ name x ∷ []

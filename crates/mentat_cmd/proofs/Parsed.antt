@@ -9,7 +9,9 @@ use Rattle.mpl_mean.specs.Reading.{Reads, Rest, ◌>>◌, nothing, node, begins,
 use Rattle.mentat_cmd.specs.Ahead.{first_is}
 use Rattle.mentat_cmd.specs.Reader.{starts, at_of}
 use Rattle.mentat_cmd.specs.declared.reader.Start.{Start}
-use Rattle.mentat_cmd.proofs.Steps.{both_read, and_true, if_some}
+use Rattle.mentat_cmd.proofs.Steps.{both_read}
+use Rattle.mpl_mean.proofs.Truth.{both_true}
+use Rattle.mpl_mean.proofs.BothRead.{if_read}
 
 -- ---- one token, one after another, and a node around them
 
@@ -99,7 +101,7 @@ separated-grown f xs ns x r m n z is h c g =
 all-more : {A : Type 0} (p : A → Bool) (xs : List A) (x : A) → list_all p xs ≡ true → p x ≡ true → list_all p (xs ++ x ∷ []) ≡ true
 all-more p [] x h g = rw g refl
 all-more p (y ∷ ys) x h g =
-    let q = and_true (p y) (list_all p ys) h in
+    let q = both_true (p y) (list_all p ys) h in
     rw q.0 (all-more p ys x q.1 g)
 
 pub all-grown : {A : Type 0} (p : A → Bool) (xs ns : List A) (x : A) → ns ≡ xs ++ x ∷ [] → list_all p xs ≡ true → p x ≡ true → list_all p ns ≡ true
@@ -107,7 +109,7 @@ all-grown p xs ns x is h g = ap (list_all p) is ∙ all-more p xs x h g
 
 -- the mark on some line is the mark
 of_mark_on : (a b : Bool) (x y : Rest) → (if a && b then Some y else None) ≡ Some x → (if a then Some y else None) ≡ Some x
-of_mark_on true b x y h = (if_some b (Some y) x h).1
+of_mark_on true b x y h = (if_read b (Some y) x h).1
 of_mark_on false b x y h = absurd cc
 
 mark_on-from : (line : ℕ) (m : Mark) (ts : List Token) (next : ℕ) (x : Rest) → token_from (λ t. is_mark m t.kind && (t.line == line)) ts next ≡ Some x → token_from (λ t. is_mark m t.kind) ts next ≡ Some x

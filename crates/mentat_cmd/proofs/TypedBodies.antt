@@ -16,13 +16,12 @@ use Rattle.mpl_mean.specs.Nodes.{Placed}
 use Rattle.mpl_mean.specs.Scopes.{Here}
 use Rattle.mpl_mean.specs.StatementNodes.{Walks, action_walk, actions_walk, locals_among}
 use Rattle.mpl_mean.specs.Types.{Declared, meant, words_of_meant, words_of_variables}
-use Rattle.mpl_mean.proofs.FirstExpressions.{both_true}
 use Rattle.mentat_cmd.specs.Bodies.{behind, declares_number, statements_fit}
 use Rattle.mentat_cmd.specs.Scope.{Scope, no_variable}
-use Rattle.mentat_cmd.proofs.TypedCalls.{and_true_right}
 use Rattle.mentat_cmd.proofs.TypedNodes.{Agrees, held, held_append}
 use Rattle.mentat_cmd.proofs.TypedScopes.{AllItems, main_here}
 use Rattle.mentat_cmd.proofs.TypedStatements.{Goes, local_goes, locals_append, print_goes}
+use Rattle.mpl_mean.proofs.Truth.{both_true, and_true_right}
 
 -- ---- a statement
 

@@ -27,11 +27,12 @@ use Rattle.mpl_mean.specs.Scopes.{Here, variable_of}
 use Rattle.mpl_mean.specs.Types.{AsFormal, Declared, OfInt, Shape, ValueType, agree, meant, shape_of, value_type}
 use Rattle.mpl_mean.specs.Typing.{all_agree, arguments_fit, formal_types, items_called, member_of, types_of, variable_shape}
 use Rattle.mpl_mean.proofs.FirstActions.{flow_is_first}
-use Rattle.mpl_mean.proofs.FirstExpressions.{both_true}
 use Rattle.mpl_mean.proofs.FirstTypes.{AreFirstItems, IsFirstType}
 use Rattle.mentat_cmd.specs.Bodies.{can_call, flow_fits, member_formals, takes, target_can_call}
 use Rattle.mentat_cmd.specs.Scope.{Kind, ANumber, AnObject, Scope}
 use Rattle.mentat_cmd.proofs.TypedNodes.{Agrees, Describes, by_one, held, held_append, phrase_held, phrase_type}
+use Rattle.mpl_mean.proofs.Truth.{both_true, and_true_right}
+use Rattle.mpl_mean.proofs.FirstBodies.{given_agrees}
 
 -- ---- the types of arguments agree with those of formals
 
@@ -47,25 +48,16 @@ int_type ds (type.Int at) h = refl
 int_type ds (type.Bool at) h = absurd cc
 int_type ds (type.Named at name) h = absurd cc
 
-agrees_int : (t : Option ValueType) → IsFirstType t → agree t (Some OfInt) ≡ true
-agrees_int None h = refl
-agrees_int (Some OfInt) h = refl
-agrees_int other h = absurd h
-
 all_agree_int : (ts : List (Option ValueType)) → AllFirst ts → (ds : List Declaration) (fs : List Formal) → are_int_formals fs ≡ true → all_agree ts (formal_types ds fs) ≡ true
 all_agree_int [] h ds fs g = refl
 all_agree_int (t ∷ ts) h ds [] g = refl
 all_agree_int (t ∷ ts) h ds (f ∷ fs) g =
     let b = both_true (is_int f.type_name) (are_int_formals fs) g in
-    ap₂ (λ a c. a && c) (ap (agree t) (int_type ds f.type_name b.0) ∙ agrees_int t h.0) (all_agree_int ts h.1 ds fs b.1)
+    ap₂ (λ a c. a && c) (ap (agree t) (int_type ds f.type_name b.0) ∙ given_agrees t h.0) (all_agree_int ts h.1 ds fs b.1)
 
 or_true : (a : Bool) → (a || true) ≡ true
 or_true true = refl
 or_true false = refl
-
-pub and_true_right : (a : Bool) → (a && true) ≡ a
-and_true_right true = refl
-and_true_right false = refl
 
 types_length : (ds : List Declaration) (fs : List Formal) → length (formal_types ds fs) ≡ length fs
 types_length ds [] = refl

@@ -28,12 +28,12 @@ use Rattle.mpl_mean.specs.SizeRules.{most_formals, most_words_of_variables, vari
 use Rattle.mpl_mean.specs.StatementNodes.{action_walk, actions_walk, locals_among}
 use Rattle.mpl_mean.specs.Types.{AsFormal, Declared, InState, OfInt, OneValue, declared_fields, declared_formals, first_named, meant, shape_of_meant, words_of_meant, words_of_variables}
 use Rattle.mpl_mean.proofs.FirstActions.{flow_is_first}
-use Rattle.mpl_mean.proofs.FirstExpressions.{both_true}
 use Rattle.mpl_mean.proofs.FirstTypes.{AreFirstItems, no_state}
 use Rattle.mentat_cmd.specs.Bodies.{result_fits}
 use Rattle.mentat_cmd.specs.Scope.{ANumber, Scope, bound, no_variable}
 use Rattle.mentat_cmd.proofs.TypedNodes.{Agrees, Describes, by_one, held, held_append, phrase_held}
 use Rattle.mentat_cmd.proofs.TypedStatements.{locals_append, phrase_locals}
+use Rattle.mpl_mean.proofs.Truth.{both_true}
 
 abbrev pub are_int_formals : List Formal → Bool
 are_int_formals = list_all (λ (f : Formal). is_int f.type_name)

@@ -15,7 +15,7 @@ use Rattle.mpl_mean.specs.Types.{Declared, OneValue, ARegular, OfInt, Shape, Val
 use Rattle.mpl_mean.specs.Typing.{type_of, type_of_whole, type_of_binary, variable_shape}
 use Rattle.mpl_mean.proofs.FirstExpressions.{IsFirst}
 use Rattle.mpl_mean.proofs.FirstNodes.{listed}
-use Rattle.mpl_mean.proofs.FirstTypes.{AreFirstItems, IsFirstType}
+use Rattle.mpl_mean.proofs.FirstTypes.{AreFirstItems, IsFirstType, binary_first}
 use Rattle.mentat_cmd.specs.Bodies.{phrase_fits}
 use Rattle.mentat_cmd.specs.Scope.{Kind, ANumber, AnObject, Scope, is_number}
 
@@ -87,17 +87,10 @@ phrase_held here scope agrees (phrase.Binary at phrase.Arithmetic l r) h =
     held_append (phrase_nodes here l) (phrase_nodes here r) ∙ ap₂ (λ a b. a && b) (phrase_held here scope agrees l h.0) (phrase_held here scope agrees r h.1)
 phrase_held here scope agrees other h = absurd h
 
-binary_type : (l r : Option ValueType) → IsFirstType l → IsFirstType r → IsFirstType (type_of_binary phrase.Arithmetic l r)
-binary_type None r a b = tt
-binary_type (Some l) None a b = tt
-binary_type (Some OfInt) (Some OfInt) a b = tt
-binary_type (Some OfInt) r a b = absurd b
-binary_type l r a b = absurd a
-
 pub phrase_type : (here : Here) (scope : Scope) → Agrees here scope → (p : Phrase) → IsFirst p → IsFirstType (type_of here p)
 phrase_type here scope agrees (phrase.Number at) h = tt
 phrase_type here scope agrees (phrase.Whole at (target.Variable t v)) h = whole_type here.declarations (variable_of here v.text) (scope v.text) (agrees v.text)
 phrase_type here scope agrees (phrase.Whole at (target.Field t v f)) h = absurd cc
 phrase_type here scope agrees (phrase.Binary at phrase.Arithmetic l r) h =
-    binary_type (type_of here l) (type_of here r) (phrase_type here scope agrees l h.0) (phrase_type here scope agrees r h.1)
+    binary_first (type_of here l) (type_of here r) (phrase_type here scope agrees l h.0) (phrase_type here scope agrees r h.1)
 phrase_type here scope agrees other h = absurd h

@@ -27,12 +27,13 @@ use Rattle.mpl_mean.specs.Scopes.{Here, at_top, in_class, is_main}
 use Rattle.mpl_mean.specs.SizeRules.{count_fits, most_declarations, most_formals, most_members}
 use Rattle.mpl_mean.specs.StatementNodes.{type_at}
 use Rattle.mpl_mean.specs.Types.{AsFormal, AsResult, Role}
-use Rattle.mpl_mean.proofs.FirstExpressions.{both_true}
 use Rattle.mpl_mean.proofs.FirstTypes.{AreFirstItems}
 use Rattle.mentat_cmd.specs.Outline.{are_new, declaration_fits, formals_fit, is_new, member_fits, members_fit, name_of_declaration, name_of_formal, name_of_item, outline_fits}
-use Rattle.mentat_cmd.proofs.TypedCalls.{and_true_right, ints_of}
+use Rattle.mentat_cmd.proofs.TypedCalls.{ints_of}
 use Rattle.mentat_cmd.proofs.TypedMembers.{are_int_formals}
 use Rattle.mentat_cmd.proofs.TypedNodes.{by_one, by_two, held, held_append, held_at}
+use Rattle.mpl_mean.proofs.Truth.{both_true, four_true, and_true_right}
+use Rattle.mentat_cmd.proofs.Lists.{shifted}
 
 -- ---- parts that are counted, each with a new name
 
@@ -44,9 +45,6 @@ past_most before most n e = grind (arith, nat_tests)
 
 still_most : (before most : ℕ) → before ≤ most → true ≡ nat_le (before + 0) most
 still_most before most h = grind (arith, nat_tests)
-
-one_later : (before n : ℕ) → (before + 1) + n ≡ before + suc n
-one_later before n = omega arith
 
 shuffled : (n q l ns ps : Bool) → (n && (q && (l && (ns && ps)))) ≡ (l && ((n && ns) && (q && ps)))
 shuffled true true l ns ps = refl
@@ -77,7 +75,7 @@ module _ {X : Type 0} (name : X → List ℕ) (part : X → Bool) (most : ℕ) w
       let rest = are_new (earlier ++ name x ∷ []) (map name xs) in
       ap (λ b. is_new earlier (name x) && (part x && b)) (others (below_most before most h e))
       ∙ shuffled (is_new earlier (name x)) (part x) (nat_le ((before + 1) + length xs) most) rest (list_all part xs)
-      ∙ ap (λ n. nat_le n most && ((is_new earlier (name x) && rest) && (part x && list_all part xs))) (one_later before (length xs))
+      ∙ ap (λ n. nat_le n most && ((is_new earlier (name x) && rest) && (part x && list_all part xs))) (shifted before (length xs))
 
   kept_is : (xs : List X) (before : ℕ) (earlier : List (List ℕ)) → before ≤ most → kept before earlier xs ≡ fitting before earlier xs
   kept_is [] before earlier h = still_most before most h ∙ sym (and_true_right (nat_le (before + 0) most))
@@ -163,17 +161,11 @@ class_part here (declaration.Class at line (Regular k) name items) h =
 class_part here (declaration.Class at line (Persistent k) name items) h = absurd cc
 class_part here (declaration.Function at result name fs body) h = absurd cc
 
-main_parts : (a b c d : Bool) → (a && b && c && d) ≡ true → (a ≡ true) × (b ≡ true) × (c ≡ true) × (d ≡ true)
-main_parts true true true d e = (refl, refl, refl, e)
-main_parts true true false d e = absurd cc
-main_parts true false c d e = absurd cc
-main_parts false b c d e = absurd cc
-
 main_part : (here : Here) (d : Declaration) → first.is_main d ≡ true → part here d ≡ declaration_fits d
 main_part here (declaration.Struct at line name fields) h = absurd cc
 main_part here (declaration.Class at line kind name items) h = absurd cc
 main_part here (declaration.Function at result name None body) h =
-    let e = main_parts (is_int result) (bytes_eq name.text (codes "main")) true (list_all is_first_statement body.statements) h in
+    let e = four_true (is_int result) (bytes_eq name.text (codes "main")) true (list_all is_first_statement body.statements) h in
     ap₂ (λ a b. a && (b && true)) (right (is_main name.text) result e.0) (used_int (type_at result) here AsResult true result e.0) where
       right : (b : Bool) (t : TypeName) → is_int t ≡ true → main_is_right b (declaration.Function at t name None body) ≡ true
       right false t h = refl
@@ -181,7 +173,7 @@ main_part here (declaration.Function at result name None body) h =
       right true (type.Bool place) h = absurd cc
       right true (type.Named place n) h = absurd cc
 main_part here (declaration.Function at result name (Some fs) body) h =
-    let e = main_parts (is_int result) (bytes_eq name.text (codes "main")) false (list_all is_first_statement body.statements) h in absurd cc
+    let e = four_true (is_int result) (bytes_eq name.text (codes "main")) false (list_all is_first_statement body.statements) h in absurd cc
 
 regrouped : (m c n q r : Bool) → ((m && c) && (n && (q && r))) ≡ (c && (n && ((m && q) && r)))
 regrouped true c n q r = refl
@@ -214,9 +206,9 @@ named_main : (d : Declaration) → first.is_main d ≡ true → is_named_main d 
 named_main (declaration.Struct at line name fields) h = absurd cc
 named_main (declaration.Class at line kind name items) h = absurd cc
 named_main (declaration.Function at result name None body) h =
-    (main_parts (is_int result) (bytes_eq name.text (codes "main")) true (list_all is_first_statement body.statements) h).1
+    (four_true (is_int result) (bytes_eq name.text (codes "main")) true (list_all is_first_statement body.statements) h).1
 named_main (declaration.Function at result name (Some fs) body) h =
-    (main_parts (is_int result) (bytes_eq name.text (codes "main")) false (list_all is_first_statement body.statements) h).1
+    (four_true (is_int result) (bytes_eq name.text (codes "main")) false (list_all is_first_statement body.statements) h).1
 
 main_there : (ds : List Declaration) → are_first ds ≡ true → list_any is_named_main ds ≡ true
 main_there [] h = absurd cc

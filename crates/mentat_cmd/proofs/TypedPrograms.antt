@@ -20,18 +20,18 @@ use Rattle.mpl_mean.specs.Scopes.{Body, Surrounding, InFunction, InMain, at_top,
 use Rattle.mpl_mean.specs.SizeRules.{most_declarations, most_formals, most_members, most_words_of_variables, variables_fit}
 use Rattle.mpl_mean.specs.StatementNodes.{locals_among}
 use Rattle.mpl_mean.specs.Types.{words_of_variables}
-use Rattle.mpl_mean.proofs.FirstExpressions.{both_true}
 use Rattle.mpl_mean.proofs.FirstPrograms.{first_form_failures}
 use Rattle.mpl_mean.proofs.FirstTypes.{AreFirstItems}
 use Rattle.mentat_cmd.specs.Bodies.{bodies_fit, member_body_fits}
 use Rattle.mentat_cmd.specs.Outline.{are_distinct, declaration_fits, member_fits, name_of_declaration, name_of_formal, name_of_item, outline_fits}
 use Rattle.mentat_cmd.specs.Typed.{program_fits}
 use Rattle.mentat_cmd.proofs.TypedBodies.{main_held, main_nodes}
-use Rattle.mentat_cmd.proofs.TypedCalls.{and_true_right, ints_of}
+use Rattle.mentat_cmd.proofs.TypedCalls.{ints_of}
 use Rattle.mentat_cmd.proofs.TypedMembers.{member_held}
 use Rattle.mentat_cmd.proofs.TypedNodes.{by_one, held, held_append, none_fails}
 use Rattle.mentat_cmd.proofs.TypedOutline.{outline_held}
 use Rattle.mentat_cmd.proofs.TypedScopes.{AllItems, items_first}
+use Rattle.mpl_mean.proofs.Truth.{both_true, four_true, and_true_right}
 
 abbrev inside_held : Inside → Bool
 inside_held i = held (inner_nodes i.here i.inner)
@@ -75,25 +75,18 @@ class_inside ds (declaration.Class at line (Regular k) name items) h few =
 class_inside ds (declaration.Class at line (Persistent k) name items) h few = absurd cc
 class_inside ds (declaration.Function at result name fs body) h few = absurd cc
 
--- what `main` is: its result, its name, its formals and its statements
-main_parts : (a b c d : Bool) → (a && b && c && d) ≡ true → (a ≡ true) × (b ≡ true) × (c ≡ true) × (d ≡ true)
-main_parts true true true d e = (refl, refl, refl, e)
-main_parts true true false d e = absurd cc
-main_parts true false c d e = absurd cc
-main_parts false b c d e = absurd cc
-
 main_inside : (ds : List Declaration) → AllItems ds → (d : Declaration) → first.is_main d ≡ true → list_all inside_held (inside_declaration (at_top ds) d) ≡ bodies_fit ds d
 main_inside ds items (declaration.Struct at line name fields) h = absurd cc
 main_inside ds items (declaration.Class at line kind name is) h = absurd cc
 main_inside ds items (declaration.Function at result name None body) h =
-    let e = main_parts (is_int result) (bytes_eq name.text (codes "main")) true (list_all is_first_statement body.statements) h in
+    let e = four_true (is_int result) (bytes_eq name.text (codes "main")) true (list_all is_first_statement body.statements) h in
     and_true_right _
     ∙ ap (λ (b : Body). held (inner_nodes (in_body b [] (at_top ds)) (OfRoutine at.span.from [] (actions_of body)))) (ap (λ t. if t then InMain else InFunction result) e.1)
     ∙ ap (λ b. b && held (main_nodes ds body.statements))
     (by_one at.span.from (rule 7 variables_fit) (nat_le (words_of_variables ds (locals_among (main_nodes ds body.statements))) most_words_of_variables))
     ∙ main_held ds items body.statements e.3 most_words_of_variables
 main_inside ds items (declaration.Function at result name (Some fs) body) h =
-    let e = main_parts (is_int result) (bytes_eq name.text (codes "main")) false (list_all is_first_statement body.statements) h in absurd cc
+    let e = four_true (is_int result) (bytes_eq name.text (codes "main")) false (list_all is_first_statement body.statements) h in absurd cc
 
 all_inside : (all : List Declaration) → AllItems all → (ds : List Declaration) → are_first ds ≡ true → list_all declaration_fits ds ≡ true
     → list_all inside_held (flat_map (inside_declaration (at_top all)) ds) ≡ list_all (bodies_fit all) ds

@@ -12,11 +12,11 @@ use Rattle.mpl_mean.specs.FirstForm.{are_first, is_class, is_main}
 use Rattle.mpl_mean.specs.NameRules.{is_meant}
 use Rattle.mpl_mean.specs.Scopes.{Here, InMain, names_beside, variable_of}
 use Rattle.mpl_mean.specs.Types.{AClass, ARegular, AsLocal, Declared, Meant, Nothing, first_named, meant_by, names, shape_of_meant, words_of_meant}
-use Rattle.mpl_mean.proofs.FirstExpressions.{both_true}
 use Rattle.mpl_mean.proofs.FirstTypes.{AreFirstItems}
 use Rattle.mentat_cmd.specs.Bodies.{class_items}
 use Rattle.mentat_cmd.specs.Scope.{Kind, Scope, declare, with_variable}
 use Rattle.mentat_cmd.proofs.TypedNodes.{Agrees, Describes}
+use Rattle.mpl_mean.proofs.Truth.{both_true}
 
 -- ---- classes
 

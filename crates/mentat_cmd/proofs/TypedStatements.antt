@@ -30,12 +30,14 @@ use Rattle.mpl_mean.specs.Scopes.{Here, names_beside}
 use Rattle.mpl_mean.specs.StatementNodes.{Walks, action_walk, declared_local, local_of, locals_among, print_walk}
 use Rattle.mpl_mean.specs.Types.{Declared, meant_by, words_of_variables}
 use Rattle.mpl_mean.proofs.FirstActions.{AreFirst, IsFirstCall, passed_is_first}
-use Rattle.mpl_mean.proofs.FirstExpressions.{IsFirst, both_true, expression_is_first}
+use Rattle.mpl_mean.proofs.FirstExpressions.{IsFirst, expression_is_first}
 use Rattle.mentat_cmd.specs.Bodies.{behind_local, call_fits, class_items, declare_object, expression_fits, value_fits}
 use Rattle.mentat_cmd.specs.Scope.{ANumber, AnObject, Scope, declare}
-use Rattle.mentat_cmd.proofs.TypedCalls.{and_true_right, call_held}
+use Rattle.mentat_cmd.proofs.TypedCalls.{call_held}
 use Rattle.mentat_cmd.proofs.TypedNodes.{Agrees, by_one, held, held_append, phrase_held}
 use Rattle.mentat_cmd.proofs.TypedScopes.{AllItems, IsItems, agrees_behind, declared_is, declared_some, main_here, meant_items, name_beside, shape_items, words_items}
+use Rattle.mpl_mean.proofs.Truth.{both_true, and_true_right}
+use Rattle.mpl_mean.proofs.FirstBodies.{prints_after}
 
 -- ---- nodes that declare nothing
 
@@ -111,10 +113,6 @@ print_held here scope agrees (e ∷ es) h =
     held_append (phrase_nodes here (phrase_of e)) (print_walk (map phrase_of es) here).nodes
     ∙ ap₂ (λ a c. a && c) (phrase_held here scope agrees (phrase_of e) (expression_is_first e b.0)) (print_held here scope agrees es b.1)
 
-print_after : (here : Here) (ps : List Phrase) → (print_walk ps here).after ≡ here
-print_after here [] = refl
-print_after here (p ∷ ps) = print_after here ps
-
 print_locals : (here : Here) (es : List Expression) → list_all is_first_expression es ≡ true → locals_among (print_walk (map phrase_of es) here).nodes ≡ []
 print_locals here [] h = refl
 print_locals here (e ∷ es) h =
@@ -128,7 +126,7 @@ print_goes ds block scope agrees at es h = record {
   holds = print_held (main_here ds block) scope agrees es h ∙ chosen_some (list_all (expression_fits scope) es) scope;
   next = λ new e. record {
     block = block;
-    after = print_after (main_here ds block) (map phrase_of es);
+    after = prints_after (main_here ds block) (map phrase_of es);
     agrees = subst (Agrees (main_here ds block)) (chosen_is (list_all (expression_fits scope) es) scope new e) agrees;
     words = ap (words_of_variables ds) (print_locals (main_here ds block) es h);
   };

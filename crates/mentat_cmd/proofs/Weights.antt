@@ -30,6 +30,7 @@ use Rattle.mpl_mean.specs.FirstForm.{is_variable}
 use Rattle.mpl_mean.specs.Weight.{Weighs, no_token, ◌⨾◌, plain, bracketed, with_commas, each_after_comma, in_order, if_any, expression_weighs, flow_weighs, call_weighs, statement_weighs, block_weighs, declarator_weighs, local_weighs, formals_weighs, item_weighs, declaration_weighs, is_light}
 use Rattle.mentat_cmd.specs.Parts.{all_light, is_light_expression, is_light_flow, is_light_call, is_light_declarator, is_light_local, is_light_statement, is_light_block, is_light_item, is_light_declaration}
 use Rattle.mentat_cmd.proofs.Layers.{statement_weighs-print, statement_weighs-declare, statement_weighs-rtf, flow_weighs-call, call_weighs-target}
+use Rattle.mpl_mean.proofs.Truth.{and_true_right}
 
 -- ---- what is counted in a part ends with it
 
@@ -58,10 +59,6 @@ light-then a b w f =
     both (λ n. nat_le n 64) (a w).weights (b (a w).after).weights
     ∙ ap (λ n. all_light (a w).weights && all_light (b n).weights) (f w)
 
-and-true : (b : Bool) → (b && true) ≡ b
-and-true true = refl
-and-true false = refl
-
 -- in brackets that are not too deep
 pub light-bracketed : (a : Weighs) (w : ℕ) → Closes a → nat_le (w + 1) 64 ≡ true → nat_le w 64 ≡ true → all_light (bracketed a w).weights ≡ all_light (a (w + 1)).weights
 light-bracketed a w f deep up =
@@ -71,7 +68,7 @@ light-bracketed a w f deep up =
     ∙ both (λ n. nat_le n 64) inner (close ∷ [])
     ∙ ap (λ n. all_light inner && (nat_le n 64 && true)) (less-one (a (w + 1)).after w (f (w + 1)))
     ∙ ap (λ b. all_light inner && (b && true)) up
-    ∙ and-true _
+    ∙ and_true_right _
 
 -- ---- parts with commas, and one after another
 
@@ -121,7 +118,7 @@ light-print at es =
     let closes = closes-commas expression_weighs es (all_expressions es) in
     ap (λ (w : Weighs). all_light (w 1).weights) (statement_weighs-print at es)
     ∙ light-then (bracketed inner) plain 1 (closes-bracketed inner closes)
-    ∙ and-true _
+    ∙ and_true_right _
     ∙ light-bracketed inner 1 closes refl refl
     ∙ light-commas expression_weighs 2 es refl (all_expressions es)
 
@@ -136,7 +133,7 @@ pub light-rtf : (at : At) (f : Flow) → Closes (flow_weighs f) → is_light_sta
 light-rtf at f closes =
     ap (λ (w : Weighs). all_light (w 2).weights) (statement_weighs-rtf at f)
     ∙ light-then (bracketed (flow_weighs f)) plain 2 (closes-bracketed (flow_weighs f) closes)
-    ∙ and-true _
+    ∙ and_true_right _
     ∙ light-bracketed (flow_weighs f) 2 closes refl refl
 
 pub closes-rtf : (at : At) (f : Flow) → Closes (flow_weighs f) → Closes (statement_weighs (statement.Rtf at f))
@@ -168,13 +165,13 @@ closes-call_flow at c closes w = ap (λ (a : Weighs). (a w).after) (flow_weighs-
 -- ---- variables
 
 pub light-one : (at : At) (t : TypeName) (d : Declarator) → (let l : Local = record { at = at; type_name = t; declarators = d ∷ [] } in is_light_local 1 l) ≡ is_light_declarator 1 d
-light-one at t d = both (λ n. nat_le n 64) (declarator_weighs d 1).weights [] ∙ and-true _
+light-one at t d = both (λ n. nat_le n 64) (declarator_weighs d 1).weights [] ∙ and_true_right _
 
 pub light-declare : (at : At) (l : Local) → Closes (local_weighs l) → is_light_statement 1 (statement.Declare at l) ≡ is_light_local 1 l
 light-declare at l closes =
     ap (λ (w : Weighs). all_light (w 1).weights) (statement_weighs-declare at l)
     ∙ light-then (local_weighs l) plain 1 closes
-    ∙ and-true _
+    ∙ and_true_right _
 
 pub closes-declare : (at : At) (l : Local) → Closes (local_weighs l) → Closes (statement_weighs (statement.Declare at l))
 closes-declare at l closes w = ap (λ (a : Weighs). (a w).after) (statement_weighs-declare at l) ∙ closes w
@@ -228,7 +225,7 @@ light-class at line kind n items c =
     let inner = in_order (map item_weighs items) in
     let closes = closes-in_order item_weighs items c in
     light-then (bracketed inner) plain 0 (closes-bracketed inner closes)
-    ∙ and-true _
+    ∙ and_true_right _
     ∙ light-bracketed inner 0 closes refl refl
     ∙ light-in_order item_weighs 1 items c
 

@@ -37,11 +37,13 @@ use Rattle.mentat_cmd.proofs.Closing.{closes-flows, closes-first_local, closes-s
 use Rattle.mentat_cmd.proofs.Forms.{first_statement, first_flow, call_flow, first_call}
 use Rattle.mentat_cmd.proofs.ExpressionTexts.{flow_text-expression, flow_weighs-expression, is_first_flow-expression}
 use Rattle.mentat_cmd.proofs.Layers.{statement_text-print, statement_text-declare, is_first_statement-print, is_first_statement-declare, flow_text-call, is_call-call, call_text-target, is_first_call-target}
-use Rattle.mentat_cmd.proofs.Leading.{mark_is, led-mark, led-mark_on, led-keyword, led-name, led-int, led-named}
+use Rattle.mentat_cmd.proofs.Leading.{led-mark, led-mark_on, led-keyword, led-name, led-int, led-named}
 use Rattle.mentat_cmd.proofs.Chains.{led-expression, begins-expression}
-use Rattle.mentat_cmd.proofs.Steps.{parts_read, token_taken, both_read, and_true}
+use Rattle.mentat_cmd.proofs.Steps.{parts_read, token_taken, both_read}
 use Rattle.mentat_cmd.proofs.Turns.{leads-some_arguments}
 use Rattle.mentat_cmd.proofs.Weights.{light-print, light-call, light-call_flow, light-one, light-declare, light-block}
+use Rattle.mpl_mean.proofs.Truth.{both_true}
+use Rattle.mpl_mean.proofs.BothReadTokens.{mark_is}
 
 -- ---- lists
 
@@ -54,8 +56,8 @@ stays s r x h =
 pub led-all : {A : Type 0} (p q : A → Bool) (f : A → Reads) (s : Stage) → ((x : A) (r z : Rest) → p x ≡ true → q x ≡ true → f x r ≡ Some z → leads s r.tokens ≡ leads s z.tokens) → (xs : List A) (r z : Rest) → list_all p xs ≡ true → list_all q xs ≡ true → each (map f xs) r ≡ Some z → leads s r.tokens ≡ leads s z.tokens
 led-all p q f s one [] r z b l h = stays s r z h
 led-all p q f s one (x ∷ xs) r z b l h =
-    let bs = and_true (p x) (list_all p xs) b in
-    let ls = and_true (q x) (list_all q xs) l in
+    let bs = both_true (p x) (list_all p xs) b in
+    let ls = both_true (q x) (list_all q xs) l in
     let t = both_read (f x) (each (map f xs)) r z h in
     one x r t.0 bs.0 ls.0 t.1 ∙ led-all p q f s one xs t.0 z bs.1 ls.1 t.2
 
@@ -83,8 +85,8 @@ LedOne role p q f = (x : _) (r z : Rest) → p x ≡ true → q x ≡ true → f
 led-after_first : {A : Type 0} (role : Role) (p q : A → Bool) (f : A → Reads) → stage_behind (BehindExpression role) (kind.Mark m.Comma) ≡ BeforeOperand role 0 → LedOne role p q f → (xs : List A) (r z : Rest) → list_all p xs ≡ true → list_all q xs ≡ true → after_first (map f xs) r ≡ Some z → Stops z.tokens → leads (BehindExpression role) r.tokens ≡ leads (BehindExpression role) z.tokens
 led-after_first role p q f comma one [] r z b l h s = stays (BehindExpression role) r z h
 led-after_first role p q f comma one (x ∷ xs) r z b l h s =
-    let bs = and_true (p x) (list_all p xs) b in
-    let ls = and_true (q x) (list_all q xs) l in
+    let bs = both_true (p x) (list_all p xs) b in
+    let ls = both_true (q x) (list_all q xs) l in
     let t = both_read (mark m.Comma) (f x >> after_first (map f xs)) r z h in
     let u = both_read (f x) (after_first (map f xs)) t.0 z t.2 in
     led-mark (BehindExpression role) (BeforeOperand role 0) m.Comma r t.0 comma t.1
@@ -94,8 +96,8 @@ led-after_first role p q f comma one (x ∷ xs) r z b l h s =
 led-separated : {A : Type 0} (role : Role) (p q : A → Bool) (f : A → Reads) → stage_behind (BehindExpression role) (kind.Mark m.Comma) ≡ BeforeOperand role 0 → LedOne role p q f → (xs : List A) (r z : Rest) → list_all p xs ≡ true → list_all q xs ≡ true → separated (map f xs) r ≡ Some z → Stops z.tokens → leads (BeforeOperand role 0) r.tokens ≡ leads (BehindExpression role) z.tokens
 led-separated role p q f comma one [] r z b l h s = absurd cc
 led-separated role p q f comma one (x ∷ xs) r z b l h s =
-    let bs = and_true (p x) (list_all p xs) b in
-    let ls = and_true (q x) (list_all q xs) l in
+    let bs = both_true (p x) (list_all p xs) b in
+    let ls = both_true (q x) (list_all q xs) l in
     let u = both_read (f x) (after_first (map f xs)) r z h in
     one x r u.0 bs.0 ls.0 u.1 (after_first-stops f xs u.0 z u.2 s) ∙ led-after_first role p q f comma one xs u.0 z bs.1 ls.1 u.2 s
 
@@ -132,7 +134,7 @@ led-passed : (fs : List Flow) (r n x : Rest) → list_all is_first_flow fs ≡ t
 led-passed [] r n x b l h c = stays BeforeArguments r n h ∙ led-mark BeforeArguments BeforeSemicolon m.CloseParenthesis n x refl c
 led-passed (f ∷ fs) r n x b l h c =
     let t = both_read (flow_text f) (after_first (map flow_text fs)) r n h in
-    leads-some_arguments r.tokens (operand-no_close r.tokens (begins-flow f r t.0 (and_true (is_first_flow f) (list_all is_first_flow fs) b).0 t.1))
+    leads-some_arguments r.tokens (operand-no_close r.tokens (begins-flow f r t.0 (both_true (is_first_flow f) (list_all is_first_flow fs) b).0 t.1))
     ∙ led-separated Passed is_first_flow (is_light_flow 2) flow_text refl (led-flow Passed) (f ∷ fs) r n b l h (stops-mark m.CloseParenthesis n x refl c)
     ∙ led-mark (BehindExpression Passed) BeforeSemicolon m.CloseParenthesis n x refl c
 
@@ -144,7 +146,7 @@ pub led-call : (c : Call) (r x : Rest) → is_first_call c ≡ true → is_light
 led-call c r x b l h = first_call (λ k. is_first_call k ≡ true → is_light_call 1 k ≡ true → call_text k r ≡ Some x → leads BeforeReceiver r.tokens ≡ leads BeforeSemicolon x.tokens) one c b b l h where
   one : (at : At) (t : Target) (n : Name) (fs : List Flow) → is_first_call (call.OnTarget at t n fs) ≡ true → is_light_call 1 (call.OnTarget at t n fs) ≡ true → call_text (call.OnTarget at t n fs) r ≡ Some x → leads BeforeReceiver r.tokens ≡ leads BeforeSemicolon x.tokens
   one at t n fs i j g =
-      let bs = and_true (is_variable t) (list_all is_first_flow fs) (sym (is_first_call-target at t n fs) ∙ i) in
+      let bs = both_true (is_variable t) (list_all is_first_flow fs) (sym (is_first_call-target at t n fs) ∙ i) in
       let ls = sym (light-call at t n fs bs.0 (closes-flows fs bs.1)) ∙ j in
       let close = mark m.CloseParenthesis in
       let passed = separated_if_any (map flow_text fs) in
@@ -186,7 +188,7 @@ led-result (type.Bool at) (declarator.Plain place n None) r x i b l h = absurd c
 led-result (type.Named at c) (declarator.Plain place n None) r x i b l h = absurd cc
 led-result t (declarator.Plain at n (Some dimension)) r x i b l h = absurd cc
 led-result t (declarator.Initialized at n f) r x i b l h =
-    let called = (and_true (is_int t) (is_call (out-Flow f)) b).1 in
+    let called = (both_true (is_int t) (is_call (out-Flow f)) b).1 in
     let start : Rest = record r { next = r.next + 1 } in
     let p = both_read (name n) (mark m.Assign >> flow_text f) start x (parts_read at (name n >> mark m.Assign >> flow_text f) r x h) in
     let q = both_read (mark m.Assign) (flow_text f) p.0 x p.2 in

@@ -41,9 +41,11 @@ use Rattle.mentat_cmd.proofs.Led.{leads-refused}
 use Rattle.mentat_cmd.specs.Reader.{at_of}
 use Rattle.mentat_cmd.specs.declared.reader.Start.{Start}
 use Rattle.mentat_cmd.proofs.Parsed.{Begins, reads-begun}
-use Rattle.mentat_cmd.proofs.Steps.{parts_read, token_taken, both_read, and_true, if_some}
+use Rattle.mentat_cmd.proofs.Steps.{parts_read, token_taken, both_read}
 use Rattle.mentat_cmd.proofs.Weights.{light-rtf, light-block, light-member, light-class, light-main, light-program}
 use Rattle.mentat_cmd.proofs.Whole.{stays, led-all, stops-mark, led-flow, led-block}
+use Rattle.mpl_mean.proofs.Truth.{both_true}
+use Rattle.mpl_mean.proofs.BothRead.{if_read}
 
 -- ---- formals
 
@@ -66,7 +68,7 @@ led-formal f r x i h = led-one_formal BeforeFormalType f r x refl i h
 led-after_formals : (fs : List Formal) (r x : Rest) → list_all (λ (f : Formal). is_int f.type_name) fs ≡ true → after_first (map formal_text fs) r ≡ Some x → leads BehindFormal r.tokens ≡ leads BehindFormal x.tokens
 led-after_formals [] r x i h = stays BehindFormal r x h
 led-after_formals (f ∷ fs) r x i h =
-    let is = and_true (is_int f.type_name) (list_all (λ (g : Formal). is_int g.type_name) fs) i in
+    let is = both_true (is_int f.type_name) (list_all (λ (g : Formal). is_int g.type_name) fs) i in
     let p = both_read (mark m.Comma) (formal_text f >> after_first (map formal_text fs)) r x h in
     let q = both_read (formal_text f) (after_first (map formal_text fs)) p.0 x p.2 in
     led-mark BehindFormal BeforeFormalType m.Comma r p.0 refl p.1 ∙ led-formal f p.0 q.0 is.0 q.1 ∙ led-after_formals fs q.0 x is.1 q.2
@@ -74,7 +76,7 @@ led-after_formals (f ∷ fs) r x i h =
 led-formals_from : (s : Stage) (fs : List Formal) (r x : Rest) → stage_behind s (kind.Keyword word.Int) ≡ BeforeFormal → list_all (λ (f : Formal). is_int f.type_name) fs ≡ true → separated (map formal_text fs) r ≡ Some x → leads s r.tokens ≡ leads BehindFormal x.tokens
 led-formals_from s [] r x e i h = absurd cc
 led-formals_from s (f ∷ fs) r x e i h =
-    let is = and_true (is_int f.type_name) (list_all (λ (g : Formal). is_int g.type_name) fs) i in
+    let is = both_true (is_int f.type_name) (list_all (λ (g : Formal). is_int g.type_name) fs) i in
     let q = both_read (formal_text f) (after_first (map formal_text fs)) r x h in
     led-one_formal s f r q.0 e is.0 q.1 ∙ led-after_formals fs q.0 x is.1 q.2
 
@@ -126,7 +128,7 @@ led-one_result at line (s ∷ []) r x b l h =
     let q = both_read inner close p.0 x p.2 in
     let u = both_read (statement_text s) nothing p.0 q.0 q.1 in
     led-mark BeforeBody BeforeRtf m.OpenBrace start p.0 refl p.1
-    ∙ led-rtf s p.0 u.0 b (and_true (is_light_statement 2 s) true l).0 u.1
+    ∙ led-rtf s p.0 u.0 b (both_true (is_light_statement 2 s) true l).0 u.1
     ∙ stays BeforeBodyEnd u.0 q.0 u.2
     ∙ led-mark_on BeforeBodyEnd InClass line m.CloseBrace q.0 x refl q.2
 
@@ -141,8 +143,8 @@ led-item (item.Public at) r x b l h = absurd cc
 led-item (item.Private at) r x b l h = absurd cc
 led-item (item.Empty at) r x b l h = absurd cc
 led-item (item.Member at result n fs body) r x b l h =
-    let bs = and_true (is_int_result result && are_ints fs) (is_one_result body.statements) b in
-    let ints = and_true (is_int_result result) (are_ints fs) bs.0 in
+    let bs = both_true (is_int_result result && are_ints fs) (is_one_result body.statements) b in
+    let ints = both_true (is_int_result result) (are_ints fs) bs.0 in
     let ls = sym (light-member at result n fs body) ∙ l in
     let formals = optional (option_map formals_text fs) in
     let close = mark m.CloseParenthesis in
@@ -169,7 +171,7 @@ pub led-class : (d : Declaration) (r x : Rest) → is_class d ≡ true → is_li
 led-class (declaration.Struct at line n fields) r x b l h = absurd cc
 led-class (declaration.Function at t n fs body) r x b l h = absurd cc
 led-class (declaration.Class at line k n items) r x b l h =
-    let bs = and_true (is_regular k) (list_all is_first_item items) b in
+    let bs = both_true (is_regular k) (list_all is_first_item items) b in
     let ls = sym (light-class at line k n items (closes-items items bs.1)) ∙ l in
     let inner = each (map item_text items) in
     let close = mark_on line m.CloseBrace in
@@ -205,7 +207,7 @@ led-main_name n r x b h =
     let p = token_taken (λ o. is_name n.text o.kind && (o.span.from == n.from)) r.tokens r.next x h in
     let main : n.text ≡ codes "main" = (bytes_eq-Decides n.text (codes "main")).0 b in
     led-token BeforeMain BeforeOpen p.0 r x p.1
-    (if-first (is_name (codes "main") p.0.kind) BeforeOpen Refused (subst (λ t. is_name t p.0.kind ≡ true) main (and_true _ _ p.2).0))
+    (if-first (is_name (codes "main") p.0.kind) BeforeOpen Refused (subst (λ t. is_name t p.0.kind ≡ true) main (both_true _ _ p.2).0))
 
 with_formals : (a b : Bool) → ((a && false) && b) ≡ true → ⊥
 with_formals true b h = cc
@@ -216,9 +218,9 @@ led-main (declaration.Struct at line n fields) r x h l g = absurd cc
 led-main (declaration.Class at line k n items) r x h l g = absurd cc
 led-main (declaration.Function at t f (Some fs) b) r x h l g = absurd (with_formals _ _ h)
 led-main (declaration.Function at t f None b) r x h l g =
-    let bs = and_true _ (list_all is_first_statement b.statements) h in
-    let cs = and_true _ _ bs.0 in
-    let ds = and_true (is_int t) (bytes_eq f.text (codes "main")) cs.0 in
+    let bs = both_true _ (list_all is_first_statement b.statements) h in
+    let cs = both_true _ _ bs.0 in
+    let ds = both_true (is_int t) (bytes_eq f.text (codes "main")) cs.0 in
     let open_ = mark m.OpenParenthesis in
     let close = mark m.CloseParenthesis in
     let start : Rest = record r { next = r.next + 1 } in
@@ -240,10 +242,10 @@ pub led-declarations : (ds : List Declaration) (r x : Rest) → are_first ds ≡
 led-declarations [] r x b l h = absurd cc
 led-declarations (d ∷ []) r x b l h =
     let p = both_read (declaration_text d) nothing r x h in
-    led-main d r p.0 b (and_true (is_light_declaration d) true l).0 p.1 ∙ stays AtEnd p.0 x p.2
+    led-main d r p.0 b (both_true (is_light_declaration d) true l).0 p.1 ∙ stays AtEnd p.0 x p.2
 led-declarations (d ∷ e ∷ ds) r x b l h =
-    let bs = and_true (is_class d) (are_first (e ∷ ds)) b in
-    let ls = and_true (is_light_declaration d) (list_all is_light_declaration (e ∷ ds)) l in
+    let bs = both_true (is_class d) (are_first (e ∷ ds)) b in
+    let ls = both_true (is_light_declaration d) (list_all is_light_declaration (e ∷ ds)) l in
     let p = both_read (declaration_text d) (each (map declaration_text (e ∷ ds))) r x h in
     led-class d r p.0 bs.0 ls.0 p.1 ∙ led-declarations (e ∷ ds) p.0 x bs.1 ls.1 p.2
 
@@ -263,7 +265,7 @@ led-program p [] s b l =
     let all = each (map declaration_text p.declarations) in
     let q = led-nothing (program_text p []) s in
     led-declarations p.declarations (all_of []) q.0 b (sym (light-program p (closes-declarations p.declarations b)) ∙ l)
-    (if_some ((p.at.id == 0) && (p.at.span.from == 0) && (p.at.span.to == 0) && (p.at.line == 1)) (all (all_of [])) q.0 q.1).1
+    (if_read ((p.at.id == 0) && (p.at.span.from == 0) && (p.at.span.to == 0) && (p.at.line == 1)) (all (all_of [])) q.0 q.1).1
     ∙ q.2
 led-program p (t ∷ ts) s b l =
     let all = each (map declaration_text p.declarations) in
@@ -286,9 +288,9 @@ no_program p ts h s b l =
 
 first-more : (ds : List Declaration) (d : Declaration) → list_all is_class ds ≡ true → is_main d ≡ true → are_first (ds ++ d ∷ []) ≡ true
 first-more [] d b i = i
-first-more (c ∷ []) d b i = rw ((and_true (is_class c) true b).0, i) refl
+first-more (c ∷ []) d b i = rw ((both_true (is_class c) true b).0, i) refl
 first-more (c ∷ e ∷ ds) d b i =
-    let p = and_true (is_class c) (list_all is_class (e ∷ ds)) b in
+    let p = both_true (is_class c) (list_all is_class (e ∷ ds)) b in
     rw p.0 (first-more (e ∷ ds) d p.1 i)
 
 pub first-grown : (ds all : List Declaration) (d : Declaration) → all ≡ ds ++ d ∷ [] → list_all is_class ds ≡ true → is_main d ≡ true → are_first all ≡ true

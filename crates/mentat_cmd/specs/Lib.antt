@@ -4,7 +4,6 @@ pub mod Bodies
 pub mod Outline
 pub mod Output
 pub mod Parts
-pub mod PhraseLevels
 pub mod Program
 pub mod Reader
 pub mod Scope

@@ -5,10 +5,6 @@ use Rattle.std.specs.Option.{option_map}
 use Rattle.mpl_ast.specs.declared.class.Formals.{Formals}
 use Rattle.mpl_ast.specs.declared.class.Item.{Item}
 use Rattle.mpl_ast.specs.declared.expression.Expression.{Expression}
-use Rattle.mpl_ast.specs.declared.expression.Primary.{Primary, fold-Primary}
-use Rattle.mpl_ast.specs.declared.expression.Sum.{Sum, fold-Sum}
-use Rattle.mpl_ast.specs.declared.expression.Term.{Term, fold-Term}
-use Rattle.mpl_ast.specs.declared.expression.Unary.{Unary, fold-Unary}
 use Rattle.mpl_ast.specs.declared.flow.Call.{Call}
 use Rattle.mpl_ast.specs.declared.flow.Flow.{Flow}
 use Rattle.mpl_ast.specs.declared.program.Declaration.{Declaration}
@@ -16,7 +12,6 @@ use Rattle.mpl_ast.specs.declared.statement.Block.{Block}
 use Rattle.mpl_ast.specs.declared.statement.Declarator.{Declarator}
 use Rattle.mpl_ast.specs.declared.statement.Local.{Local}
 use Rattle.mpl_ast.specs.declared.statement.Statement.{Statement}
-use Rattle.mpl_mean.specs.ExpressionText as text
 use Rattle.mpl_ast.specs.declared.token.Mark.TheVariants as m
 use Rattle.mpl_mean.specs.ProgramText.{formals_text}
 use Rattle.mpl_mean.specs.Reading.{Reads, ◌>>◌, mark, optional, separated_if_any}
@@ -24,22 +19,6 @@ use Rattle.mpl_mean.specs.StatementText.{flow_text}
 use Rattle.mpl_mean.specs.Weight.{block_weighs, call_weighs, declaration_weighs, declarator_weighs, expression_weighs, flow_weighs, item_weighs, local_weighs, statement_weighs}
 
 -- ---- the tokens
-
-abbrev pub sum_text : Sum → Reads
-sum_text = fold-Sum Reads Reads Reads Reads Reads Reads Reads Reads Reads text.conjunction_step text.equality_step
-    text.expression_step text.place_step text.primary_step text.relation_step text.sum_step text.term_step text.unary_step
-
-abbrev pub term_text : Term → Reads
-term_text = fold-Term Reads Reads Reads Reads Reads Reads Reads Reads Reads text.conjunction_step text.equality_step
-    text.expression_step text.place_step text.primary_step text.relation_step text.sum_step text.term_step text.unary_step
-
-abbrev pub unary_text : Unary → Reads
-unary_text = fold-Unary Reads Reads Reads Reads Reads Reads Reads Reads Reads text.conjunction_step text.equality_step
-    text.expression_step text.place_step text.primary_step text.relation_step text.sum_step text.term_step text.unary_step
-
-abbrev pub primary_text : Primary → Reads
-primary_text = fold-Primary Reads Reads Reads Reads Reads Reads Reads Reads Reads text.conjunction_step text.equality_step
-    text.expression_step text.place_step text.primary_step text.relation_step text.sum_step text.term_step text.unary_step
 
 -- the formals, if any, and the mark behind them
 abbrev pub formals_to_end : Option Formals → Reads

@@ -3,7 +3,7 @@
 ghost use Rattle.std.specs.Prelude.{◌≡◌};
 ghost use Rattle.std.specs.List.{list_all};
 ghost use Rattle.mentat_cmd.specs.Bodies.{expression_fits, phrase_fits};
-ghost use Rattle.mentat_cmd.specs.PhraseLevels.{phrase_of_conjunction, phrase_of_equality, phrase_of_primary, phrase_of_relation, phrase_of_sum, phrase_of_term, phrase_of_unary};
+ghost use Rattle.mpl_mean.specs.ExpressionLevels.{phrase_of_conjunction, phrase_of_equality, phrase_of_primary, phrase_of_relation, phrase_of_sum, phrase_of_term, phrase_of_unary};
 ghost use Rattle.mentat_cmd.specs.Scope.{is_number};
 ghost use Rattle.mentat_cmd.specs.Variables.{seen};
 ghost use Rattle.mpl_mean.specs.Phrases.{phrase_of_place};

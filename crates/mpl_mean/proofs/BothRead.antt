@@ -4,8 +4,8 @@ use Rattle.std.specs.Option.{option_and_then}
 use Rattle.std.proofs.lemmas.Bool.Decides.{Decides-eqb}
 use Rattle.mpl_ast.specs.declared.place.At.{At}
 use Rattle.mpl_ast.specs.declared.token.Token.{Token}
-use Rattle.mpl_mean.proofs.FirstExpressions.{both_true}
 use Rattle.mpl_mean.specs.Reading.{Reads, Rest, ◌>>◌, nothing, begins, ended, node}
+use Rattle.mpl_mean.proofs.Truth.{both_true}
 
 -- ---- one after another
 
@@ -42,7 +42,7 @@ Through [] r x = r ≡ x
 Through (a ∷ []) r x = Reading a r x
 Through (a ∷ b ∷ qs) r x = (m : Rest) × Reading a r m × Through (b ∷ qs) m x
 
-then_read : (o : Option Rest) (b : Reads) (x : Rest) → option_and_then b o ≡ Some x → (m : Rest) × (o ≡ Some m) × (b m ≡ Some x)
+pub then_read : (o : Option Rest) (b : Reads) (x : Rest) → option_and_then b o ≡ Some x → (m : Rest) × (o ≡ Some m) × (b m ≡ Some x)
 then_read None b x h = absurd cc
 then_read (Some m) b x h = (m, refl, h)
 

@@ -26,10 +26,10 @@ use Rattle.mpl_mean.specs.Reading.{Reads, Rest, after_first, each, keyword, mark
 use Rattle.mpl_mean.specs.StatementText.{block_text, type_text}
 use Rattle.mpl_mean.proofs.BothRead.{Reading, in_turn, inside, one_end, one_place, parts, some_same}
 use Rattle.mpl_mean.proofs.BothReadTokens.{Heads, one_first, one_mark_on, one_name, took_first, took_keyword, took_mark, took_mark_on}
-use Rattle.mpl_mean.proofs.FirstExpressions.{both_true}
 use Rattle.mpl_mean.proofs.BothReadLists.{moved, one_each, one_separated}
 use Rattle.mpl_mean.proofs.BothReadLocals.{one_type, type_head, type_starts}
 use Rattle.mpl_mean.proofs.BothReadStatements.{brace_or_type, one_member_block}
+use Rattle.mpl_mean.proofs.Truth.{both_true}
 
 -- ---- formals
 

@@ -1,5 +1,5 @@
 -- Two calls of the first form that are read from one place are one, and so are what is passed to them.
-use Rattle.std.proofs.Common.{◌≡◌, Bool, true, false, List, [], ◌∷◌, map, refl, ap, sym, ◌∙◌, true≢false}
+use Rattle.std.proofs.Common.{◌≡◌, Bool, true, List, [], ◌∷◌, map, refl, ap, sym, ◌∙◌, true≢false}
 use Rattle.std.specs.List.{list_all}
 use Rattle.mpl_ast.specs.declared.expression.Expression.{Expression}
 use Rattle.mpl_ast.specs.declared.expression.Target.{Target}
@@ -18,14 +18,11 @@ use Rattle.mpl_mean.specs.Reading.{Reads, Rest, node, name, mark, separated_if_a
 use Rattle.mpl_mean.specs.StatementText.{call_step, flow_step, call_text, flow_text}
 use Rattle.mpl_mean.proofs.BothRead.{Reading, inside, one_end, one_place, parts, told}
 use Rattle.mpl_mean.proofs.BothReadTokens.{Heads, one_name, took_first, took_mark}
-use Rattle.mpl_mean.proofs.FirstExpressions.{both_true}
 use Rattle.mpl_mean.proofs.BothReadExpressions.{expression_starts, one_expression, operand_or_mark}
 use Rattle.mpl_mean.proofs.BothReadLists.{one_separated_if_any}
 use Rattle.mpl_mean.proofs.BothReadSums.{MayFollow}
 use Rattle.mpl_mean.proofs.OpenTrees.{open_trees}
-
-pub never : {A : Type 0} (b : Bool) → b ≡ false → b ≡ true → A
-never b e h = absurd (true≢false (sym h ∙ e))
+use Rattle.mpl_mean.proofs.Truth.{both_true, never}
 
 -- ---- what is passed
 

@@ -8,8 +8,8 @@ use Rattle.mpl_ast.specs.declared.token.TokenKind.TheVariants as kind
 use Rattle.mpl_mean.specs.Reading.{Reads, Rest, each, after_first, separated, separated_if_any, mark}
 use Rattle.mpl_mean.proofs.BothRead.{Reading, in_turn, one_end, some_same}
 use Rattle.mpl_mean.proofs.BothReadTokens.{Heads, head, one_first, took_first, took_mark}
-use Rattle.mpl_mean.proofs.FirstExpressions.{both_true}
 use Rattle.mpl_mean.proofs.BothReadSums.{MayFollow, Closes, Goes}
+use Rattle.mpl_mean.proofs.Truth.{both_true}
 
 -- two that are read from one place are one
 abbrev pub AreOne : {A : Type 0} → (A → Reads) → (A → Bool) → Type 0

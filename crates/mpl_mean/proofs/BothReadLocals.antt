@@ -17,8 +17,8 @@ use Rattle.mpl_mean.specs.Reading.{Reads, Rest, name, mark, keyword, nothing, op
 use Rattle.mpl_mean.specs.StatementText.{declarator_text, dimension_text, flow_text, local_text, type_text}
 use Rattle.mpl_mean.proofs.BothRead.{Reading, in_turn, inside, one_end, one_place, parts}
 use Rattle.mpl_mean.proofs.BothReadTokens.{Heads, one_first, one_name, took_first, took_keyword, took_name}
-use Rattle.mpl_mean.proofs.FirstExpressions.{both_true}
 use Rattle.mpl_mean.proofs.BothReadFlows.{one_kept}
+use Rattle.mpl_mean.proofs.Truth.{both_true}
 
 -- ---- types
 

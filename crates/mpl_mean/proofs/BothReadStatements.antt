@@ -21,10 +21,11 @@ use Rattle.mpl_mean.specs.StatementText.{StatementText, block_step, block_text, 
 use Rattle.mpl_mean.proofs.BothRead.{Reading, chain, in_turn, inside, one_end, one_place, parts, told}
 use Rattle.mpl_mean.proofs.BothReadTokens.{Heads, one_first, one_mark_on, took_first, took_keyword, took_mark, took_mark_on}
 use Rattle.mpl_mean.proofs.BothReadExpressions.{one_expression}
-use Rattle.mpl_mean.proofs.BothReadFlows.{never, one_flow}
+use Rattle.mpl_mean.proofs.BothReadFlows.{one_flow}
 use Rattle.mpl_mean.proofs.BothReadLists.{one_each, one_separated}
 use Rattle.mpl_mean.proofs.BothReadSums.{Closes}
 use Rattle.mpl_mean.proofs.BothReadLocals.{local_starts, one_local, type_head}
+use Rattle.mpl_mean.proofs.Truth.{never}
 
 -- ---- the statements of `main`
 

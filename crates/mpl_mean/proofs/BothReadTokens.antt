@@ -11,9 +11,9 @@ use Rattle.mpl_ast.specs.declared.token.Mark.{Mark}
 use Rattle.mpl_ast.specs.declared.token.Token.{Token}
 use Rattle.mpl_ast.specs.declared.token.TokenKind.{TokenKind}
 use Rattle.mpl_ast.specs.declared.token.TokenKind.TheVariants as kind
-use Rattle.mpl_mean.proofs.FirstExpressions.{both_true}
 use Rattle.mpl_mean.specs.Reading.{Rest, token, token_from, mark, mark_on, keyword, name, is_mark, is_keyword, is_name, is_number}
 use Rattle.mpl_mean.proofs.BothRead.{Reading, if_read, some_same}
+use Rattle.mpl_mean.proofs.Truth.{both_true}
 
 -- ---- the token that is read
 

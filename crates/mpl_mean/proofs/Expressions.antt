@@ -27,7 +27,7 @@ use Rattle.mpl_ast.specs.declared.place.At.{At}
 use Rattle.mpl_ast.specs.declared.place.Name.{Name}
 use Rattle.mpl_mean.specs.Phrases.{Phrase, listed, phrase_of, phrase_of_place, phrase_of_flow, phrase_of_call, conjunction_step, equality_step, expression_step, place_step, primary_step, relation_step, sum_step, term_step, unary_step}
 use Rattle.mpl_mean.specs.Phrases as phrase
-use Rattle.mpl_mean.proofs.Levels.{phrase_of_equality, phrase_of_primary, phrase_of_relation, phrase_of_sum, phrase_of_term, phrase_of_unary}
+use Rattle.mpl_mean.specs.ExpressionLevels.{phrase_of_equality, phrase_of_primary, phrase_of_relation, phrase_of_sum, phrase_of_term, phrase_of_unary}
 use Rattle.mpl_mean.proofs.Shown.{Shown, all_trees, all_seen, seen_each}
 
 abbrev pub at : ℕ → At

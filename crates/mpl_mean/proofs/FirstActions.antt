@@ -18,7 +18,8 @@ use Rattle.mpl_mean.specs.FirstForm.{is_variable, is_int, is_named, is_call, is_
 use Rattle.mpl_mean.specs.FirstForm as first
 use Rattle.mpl_mean.specs.Phrases.{Phrase, Phrases, listed, phrase_of, phrase_of_call, phrase_of_flow}
 use Rattle.mpl_mean.specs.Phrases as phrase
-use Rattle.mpl_mean.proofs.FirstExpressions.{IsFirst, both_true, expression_is_first}
+use Rattle.mpl_mean.proofs.FirstExpressions.{IsFirst, expression_is_first}
+use Rattle.mpl_mean.proofs.Truth.{both_true}
 
 -- ---- flows and calls
 

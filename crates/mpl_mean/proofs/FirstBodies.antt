@@ -24,9 +24,9 @@ use Rattle.mpl_mean.specs.StatementRules.{speaks_in_main, rtf_fits, can_give}
 use Rattle.mpl_mean.specs.Types.{Declared, AsLocal, Meant, Nothing, AClass, meant_by, ValueType, OneValue, OfInt, agree}
 use Rattle.mpl_mean.specs.Typing.{type_of}
 use Rattle.mpl_mean.proofs.FirstActions.{AllFirst, IsFirstAction, IsFirstLocal, IsResult, statement_is_first}
-use Rattle.mpl_mean.proofs.FirstExpressions.{both_true}
 use Rattle.mpl_mean.proofs.FirstNodes.{AllSame, same_append, with_one, with_second, phrase_same, call_same, call_type_first}
 use Rattle.mpl_mean.proofs.FirstTypes.{FirstHere, IsFirstType, IsFirstMeant, IsFirstTyped, AreFirstVariables, variables_append, type_first}
+use Rattle.mpl_mean.proofs.Truth.{both_true}
 
 -- ---- scopes
 
@@ -64,7 +64,7 @@ prints_same here first (p ∷ ps) h = (
   same_append (phrase_nodes here p) (print_walk ps here).nodes (phrase_same here first p h.0) (prints_same here first ps h.1),
 )
 
-prints_after : (here : Here) (ps : List Phrase) → (print_walk ps here).after ≡ here
+pub prints_after : (here : Here) (ps : List Phrase) → (print_walk ps here).after ≡ here
 prints_after here [] = refl
 prints_after here (p ∷ ps) = prints_after here ps
 
@@ -143,7 +143,7 @@ statements_same (s ∷ ss) e here h =
 
 -- ---- the one statement of a member
 
-given_agrees : (t : Option ValueType) → IsFirstType t → agree t (Some OfInt) ≡ true
+pub given_agrees : (t : Option ValueType) → IsFirstType t → agree t (Some OfInt) ≡ true
 given_agrees None h = refl
 given_agrees (Some OfInt) h = refl
 given_agrees other h = absurd h

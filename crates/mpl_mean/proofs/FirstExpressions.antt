@@ -1,5 +1,5 @@
 -- Expressions of the first form, and what the type rules see of them.
-use Rattle.std.proofs.Common.{◌≡◌, Bool, true, false, ◌&&◌, map, sym, refl, subst, ◌∙◌, true≢false}
+use Rattle.std.proofs.Common.{◌≡◌, Bool, true, false, ◌&&◌, map, sym, subst, ◌∙◌, true≢false}
 use Rattle.mpl_ast.specs.declared.expression.Conjunction.{Conjunction, fold-roll-Conjunction, map-Conjunction, roll-Conjunction}
 use Rattle.mpl_ast.specs.declared.expression.Equality.{Equality, fold-roll-Equality, map-Equality, roll-Equality}
 use Rattle.mpl_ast.specs.declared.expression.Expression.{Expression, fold-roll-Expression, map-Expression, roll-Expression, ind-Expression}
@@ -15,7 +15,8 @@ use Rattle.mpl_mean.specs.FirstForm.{is_variable, is_first_conjunction, is_first
 use Rattle.mpl_mean.specs.FirstForm as first
 use Rattle.mpl_mean.specs.Phrases.{Phrase, phrase_of, phrase_of_place}
 use Rattle.mpl_mean.specs.Phrases as phrase
-use Rattle.mpl_mean.proofs.Levels.{phrase_of_conjunction, phrase_of_equality, phrase_of_primary, phrase_of_relation, phrase_of_sum, phrase_of_term, phrase_of_unary}
+use Rattle.mpl_mean.specs.ExpressionLevels.{phrase_of_conjunction, phrase_of_equality, phrase_of_primary, phrase_of_relation, phrase_of_sum, phrase_of_term, phrase_of_unary}
+use Rattle.mpl_mean.proofs.Truth.{both_true}
 
 -- of numbers and variables, with `+`, `-` and `*`
 abbrev pub IsFirst : Phrase → Type 0
@@ -23,10 +24,6 @@ IsFirst (phrase.Number at) = Unit {0}
 IsFirst (phrase.Whole at target) = is_variable target ≡ true
 IsFirst (phrase.Binary at phrase.Arithmetic left right) = IsFirst left × IsFirst right
 IsFirst other = ⊥
-
-pub both_true : (a b : Bool) → (a && b) ≡ true → (a ≡ true) × (b ≡ true)
-both_true true b e = (refl, e)
-both_true false b e = absurd cc
 
 abbrev Good-Conjunction : Conjunction → Type 0
 Good-Conjunction t = is_first_conjunction t ≡ true → IsFirst (phrase_of_conjunction t)

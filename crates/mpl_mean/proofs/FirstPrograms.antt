@@ -31,9 +31,9 @@ use Rattle.mpl_mean.specs.StatementNodes.{actions_walk, action_walk, type_at}
 use Rattle.mpl_mean.specs.Types.{Role, AsFormal, AsResult, InState, declared_fields, declared_formals}
 use Rattle.mpl_mean.proofs.FirstActions.{statement_is_result}
 use Rattle.mpl_mean.proofs.FirstBodies.{statements_same, result_same}
-use Rattle.mpl_mean.proofs.FirstExpressions.{both_true}
 use Rattle.mpl_mean.proofs.FirstNodes.{Same, AllSame, same_append, same_failures, with_second}
 use Rattle.mpl_mean.proofs.FirstTypes.{IsFirstTyped, AreFirstItems, AreFirstVariables, FirstHere, OnlyFirst, meant_first, no_state}
+use Rattle.mpl_mean.proofs.Truth.{both_true, four_true}
 
 -- ---- bodies
 
@@ -105,18 +105,11 @@ class_inside ds only (declaration.Class at line (Regular k) name items) h = item
 class_inside ds only (declaration.Class at line (Persistent k) name items) h = absurd cc
 class_inside ds only (declaration.Function at result name fs body) h = absurd cc
 
--- what `main` is: its result, its name, its formals and its statements
-main_parts : (a b c d : Bool) → (a && b && c && d) ≡ true → (a ≡ true) × (b ≡ true) × (c ≡ true) × (d ≡ true)
-main_parts true true true d e = (refl, refl, refl, e)
-main_parts true true false d e = absurd cc
-main_parts true false c d e = absurd cc
-main_parts false b c d e = absurd cc
-
 main_inside : (ds : List Declaration) → OnlyFirst ds → (d : Declaration) → first.is_main d ≡ true → AllInside (inside_declaration (at_top ds) d)
 main_inside ds only (declaration.Struct at line name fields) h = absurd cc
 main_inside ds only (declaration.Class at line kind name items) h = absurd cc
 main_inside ds only (declaration.Function at result name None body) h =
-    let e = main_parts (is_int result) (bytes_eq name.text (codes "main")) true (list_all is_first_statement body.statements) h in (
+    let e = four_true (is_int result) (bytes_eq name.text (codes "main")) true (list_all is_first_statement body.statements) h in (
       (
         refl,
         statements_same body.statements e.3 _ (record {
@@ -127,7 +120,7 @@ main_inside ds only (declaration.Function at result name None body) h =
       tt,
     )
 main_inside ds only (declaration.Function at result name (Some fs) body) h =
-    let e = main_parts (is_int result) (bytes_eq name.text (codes "main")) false (list_all is_first_statement body.statements) h in absurd cc
+    let e = four_true (is_int result) (bytes_eq name.text (codes "main")) false (list_all is_first_statement body.statements) h in absurd cc
 
 all_inside : (all : List Declaration) → OnlyFirst all → (ds : List Declaration) → are_first ds ≡ true → AllInside (flat_map (inside_declaration (at_top all)) ds)
 all_inside all only [] h = absurd cc
@@ -192,10 +185,10 @@ main_same : (here : Here) (before : ℕ) (d : Declaration) → first.is_main d �
 main_same here before (declaration.Struct at line name fields) h = absurd cc
 main_same here before (declaration.Class at line kind name items) h = absurd cc
 main_same here before (declaration.Function at result name None body) h =
-    let e = main_parts (is_int result) (bytes_eq name.text (codes "main")) true (list_all is_first_statement body.statements) h in
+    let e = four_true (is_int result) (bytes_eq name.text (codes "main")) true (list_all is_first_statement body.statements) h in
     (refl, (type_same (type_at result) here AsResult result e.0, tt))
 main_same here before (declaration.Function at result name (Some fs) body) h =
-    let e = main_parts (is_int result) (bytes_eq name.text (codes "main")) false (list_all is_first_statement body.statements) h in absurd cc
+    let e = four_true (is_int result) (bytes_eq name.text (codes "main")) false (list_all is_first_statement body.statements) h in absurd cc
 
 declarations_same : (here : Here) (before : ℕ) (earlier : List (List ℕ)) (ds : List Declaration) → are_first ds ≡ true → AllSame (declaration_nodes here before earlier ds)
 declarations_same here before earlier [] h = absurd cc

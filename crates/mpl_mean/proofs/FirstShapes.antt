@@ -14,8 +14,8 @@ use Rattle.mpl_ast.specs.declared.expression.Target.TheVariants.{Variable, Field
 use Rattle.mpl_ast.specs.declared.expression.TermOperator.TheVariants as term
 use Rattle.mpl_mean.specs.FirstForm.{is_first_conjunction, is_first_equality, is_first_expression, is_first_place, is_first_primary, is_first_relation, is_first_sum, is_first_term, is_first_unary}
 use Rattle.mpl_mean.specs.FirstForm as first
-use Rattle.mpl_mean.proofs.FirstExpressions.{both_true}
 use Rattle.mpl_mean.proofs.FirstTrees.{FirstPlace, FirstPrimary, ANumber, APlace, FirstUnary, FirstTerm, OneFactor, Product, FirstSum, OneSummand, Joined, FirstRelation, FirstEquality, FirstConjunction, FirstExpression, place_tree, primary_tree, unary_tree, term_tree, sum_tree, relation_tree, equality_tree, conjunction_tree, expression_tree}
+use Rattle.mpl_mean.proofs.Truth.{both_true}
 
 abbrev Good-Conjunction : Conjunction → Type 0
 Good-Conjunction t = is_first_conjunction t ≡ true → (s : FirstConjunction) × (conjunction_tree s ≡ t)

@@ -1,48 +1,19 @@
 -- The tokens of expressions of the first form, as plain data has them.
 use Rattle.std.proofs.Common.{◌≡◌, refl}
-use Rattle.mpl_ast.specs.declared.expression.Conjunction.{Conjunction, fold-Conjunction, fold-roll-Conjunction}
-use Rattle.mpl_ast.specs.declared.expression.Equality.{Equality, fold-Equality, fold-roll-Equality}
+use Rattle.mpl_ast.specs.declared.expression.Conjunction.{fold-roll-Conjunction}
+use Rattle.mpl_ast.specs.declared.expression.Equality.{fold-roll-Equality}
 use Rattle.mpl_ast.specs.declared.expression.Expression.{fold-roll-Expression}
 use Rattle.mpl_ast.specs.declared.expression.Place.{fold-roll-Place}
-use Rattle.mpl_ast.specs.declared.expression.Primary.{Primary, fold-Primary, fold-roll-Primary}
-use Rattle.mpl_ast.specs.declared.expression.Relation.{Relation, fold-Relation, fold-roll-Relation}
-use Rattle.mpl_ast.specs.declared.expression.Sum.{Sum, fold-Sum, fold-roll-Sum}
-use Rattle.mpl_ast.specs.declared.expression.Term.{Term, fold-Term, fold-roll-Term}
-use Rattle.mpl_ast.specs.declared.expression.Unary.{Unary, fold-Unary, fold-roll-Unary}
+use Rattle.mpl_ast.specs.declared.expression.Primary.{fold-roll-Primary}
+use Rattle.mpl_ast.specs.declared.expression.Relation.{fold-roll-Relation}
+use Rattle.mpl_ast.specs.declared.expression.Sum.{fold-roll-Sum}
+use Rattle.mpl_ast.specs.declared.expression.Term.{fold-roll-Term}
+use Rattle.mpl_ast.specs.declared.expression.Unary.{fold-roll-Unary}
 use Rattle.mpl_ast.specs.declared.token.Mark.TheVariants as m
-use Rattle.mpl_mean.specs.ExpressionText.{conjunction_step, equality_step, expression_step, place_step, primary_step, relation_step, sum_step, term_step, unary_step, expression_text, sum_mark}
+use Rattle.mpl_mean.specs.ExpressionLevels.{sum_text, term_text, primary_text}
+use Rattle.mpl_mean.specs.ExpressionText.{expression_text, sum_mark}
 use Rattle.mpl_mean.specs.Reading.{Reads, ◌>>◌, node, name, token, mark_on, is_number}
 use Rattle.mpl_mean.proofs.FirstTrees.{FirstPlace, FirstPrimary, ANumber, APlace, FirstUnary, FirstTerm, OneFactor, Product, FirstSum, OneSummand, Joined, FirstRelation, FirstEquality, FirstConjunction, FirstExpression, primary_tree, term_tree, sum_tree, expression_tree}
-
--- ---- the texts of the levels of an expression
-
-abbrev pub conjunction_text : Conjunction → Reads
-conjunction_text = fold-Conjunction Reads Reads Reads Reads Reads Reads Reads Reads Reads conjunction_step equality_step expression_step place_step primary_step
-    relation_step sum_step term_step unary_step
-
-abbrev pub equality_text : Equality → Reads
-equality_text = fold-Equality Reads Reads Reads Reads Reads Reads Reads Reads Reads conjunction_step equality_step expression_step place_step primary_step
-    relation_step sum_step term_step unary_step
-
-abbrev pub primary_text : Primary → Reads
-primary_text = fold-Primary Reads Reads Reads Reads Reads Reads Reads Reads Reads conjunction_step equality_step expression_step place_step primary_step
-    relation_step sum_step term_step unary_step
-
-abbrev pub relation_text : Relation → Reads
-relation_text = fold-Relation Reads Reads Reads Reads Reads Reads Reads Reads Reads conjunction_step equality_step expression_step place_step primary_step
-    relation_step sum_step term_step unary_step
-
-abbrev pub sum_text : Sum → Reads
-sum_text = fold-Sum Reads Reads Reads Reads Reads Reads Reads Reads Reads conjunction_step equality_step expression_step place_step primary_step
-    relation_step sum_step term_step unary_step
-
-abbrev pub term_text : Term → Reads
-term_text = fold-Term Reads Reads Reads Reads Reads Reads Reads Reads Reads conjunction_step equality_step expression_step place_step primary_step
-    relation_step sum_step term_step unary_step
-
-abbrev pub unary_text : Unary → Reads
-unary_text = fold-Unary Reads Reads Reads Reads Reads Reads Reads Reads Reads conjunction_step equality_step expression_step place_step primary_step
-    relation_step sum_step term_step unary_step
 
 -- ---- what plain data reads
 

@@ -22,7 +22,8 @@ use Rattle.mpl_mean.specs.Phrases as phrase
 use Rattle.mpl_mean.specs.Scopes.{Here, state_members}
 use Rattle.mpl_mean.specs.Types.{AClass, Nothing, Meant, meant, meant_by, Role, AsLocal, AsFormal, AsResult, InState, InStruct, Declared, first_named, Shape, OneValue, AnArray, ARegular, OfInt, shape_of, shape_of_meant, result_type, ValueType}
 use Rattle.mpl_mean.specs.Typing.{variable_shape, type_of_whole, type_of_binary, type_of, items_called, member_of, type_of_call}
-use Rattle.mpl_mean.proofs.FirstExpressions.{IsFirst, both_true}
+use Rattle.mpl_mean.proofs.FirstExpressions.{IsFirst}
+use Rattle.mpl_mean.proofs.Truth.{both_true}
 
 -- ---- what types stand for
 
@@ -134,7 +135,7 @@ whole_first (Some (AnArray t)) h = tt
 whole_first (Some (ARegular items)) h = tt
 whole_first other h = absurd h
 
-binary_first : (l r : Option ValueType) → IsFirstType l → IsFirstType r → IsFirstType (type_of_binary phrase.Arithmetic l r)
+pub binary_first : (l r : Option ValueType) → IsFirstType l → IsFirstType r → IsFirstType (type_of_binary phrase.Arithmetic l r)
 binary_first None r a b = tt
 binary_first (Some l) None a b = tt
 binary_first (Some OfInt) (Some OfInt) a b = tt

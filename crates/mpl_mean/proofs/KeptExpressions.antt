@@ -1,15 +1,15 @@
 -- The values of expressions, in two runs.
 use Rattle.std.proofs.Common.{ℕ, Bool, true, false, List, [], ◌∷◌, map, length, Option, Some, None, if◌then◌else◌, ℤ, Result, sym, subst}
 use Rattle.std.specs.List.{AllZip}
-use Rattle.mpl_ast.specs.declared.expression.Conjunction.{Conjunction, fold-Conjunction, fold-roll-Conjunction, map-Conjunction, roll-Conjunction}
-use Rattle.mpl_ast.specs.declared.expression.Equality.{Equality, fold-Equality, fold-roll-Equality, map-Equality, roll-Equality}
+use Rattle.mpl_ast.specs.declared.expression.Conjunction.{Conjunction, fold-roll-Conjunction, map-Conjunction, roll-Conjunction}
+use Rattle.mpl_ast.specs.declared.expression.Equality.{Equality, fold-roll-Equality, map-Equality, roll-Equality}
 use Rattle.mpl_ast.specs.declared.expression.Expression.{Expression, fold-Expression, fold-roll-Expression, map-Expression, roll-Expression, ind-Expression}
-use Rattle.mpl_ast.specs.declared.expression.Place.{Place, fold-Place, fold-roll-Place, map-Place, roll-Place}
-use Rattle.mpl_ast.specs.declared.expression.Primary.{Primary, fold-Primary, fold-roll-Primary, map-Primary, roll-Primary}
-use Rattle.mpl_ast.specs.declared.expression.Relation.{Relation, fold-Relation, fold-roll-Relation, map-Relation, roll-Relation}
-use Rattle.mpl_ast.specs.declared.expression.Sum.{Sum, fold-Sum, fold-roll-Sum, map-Sum, roll-Sum}
-use Rattle.mpl_ast.specs.declared.expression.Term.{Term, fold-Term, fold-roll-Term, map-Term, roll-Term}
-use Rattle.mpl_ast.specs.declared.expression.Unary.{Unary, fold-Unary, fold-roll-Unary, map-Unary, roll-Unary}
+use Rattle.mpl_ast.specs.declared.expression.Place.{Place, fold-roll-Place, map-Place, roll-Place}
+use Rattle.mpl_ast.specs.declared.expression.Primary.{Primary, fold-roll-Primary, map-Primary, roll-Primary}
+use Rattle.mpl_ast.specs.declared.expression.Relation.{Relation, fold-roll-Relation, map-Relation, roll-Relation}
+use Rattle.mpl_ast.specs.declared.expression.Sum.{Sum, fold-roll-Sum, map-Sum, roll-Sum}
+use Rattle.mpl_ast.specs.declared.expression.Term.{Term, fold-roll-Term, map-Term, roll-Term}
+use Rattle.mpl_ast.specs.declared.expression.Unary.{Unary, fold-roll-Unary, map-Unary, roll-Unary}
 use Rattle.mpl_ast.specs.declared.expression.Conjunction.TheOpen.{Conjunction-F, Equality-F, Expression-F, Place-F, Primary-F, Relation-F, Sum-F, Term-F, Unary-F}
 use Rattle.mpl_ast.specs.declared.expression.UnaryOperator.{UnaryOperator}
 use Rattle.mpl_ast.specs.declared.expression.UnaryOperator.TheVariants as unary
@@ -22,6 +22,7 @@ use Rattle.mpl_mean.specs.Layout.{Function, function_named}
 use Rattle.mpl_mean.specs.PlaceMeaning.{read}
 use Rattle.mpl_mean.specs.Store.{Doing, give, computed, all_of}
 use Rattle.mpl_mean.specs.Values.{Value, word_of, is_true}
+use Rattle.mpl_mean.specs.ExpressionLevels.{conjunction_value, equality_value, relation_value, sum_value, term_value, unary_value, primary_value, place_value}
 use Rattle.mpl_mean.proofs.Simulation.{Simulation, BelowBeside, Same, first, second, goes_on_same, gives_same, computes, all_same}
 use Rattle.mpl_mean.proofs.KeptPlaces.{read_kept, index_kept}
 
@@ -88,17 +89,11 @@ module _ (S : Simulation) (b c : Below) (d : BelowBeside S b c) where
 
   -- ---- the folds, and what is shown of each tree
 
-  abbrev conjunction_value : Conjunction → Evaluates
-  conjunction_value = fold-Conjunction Evaluates Evaluates Evaluates Evaluates Evaluates Evaluates Evaluates Evaluates Evaluates conjunction_step equality_step expression_step place_step primary_step relation_step sum_step term_step unary_step
-
   abbrev Keeps-Conjunction : Conjunction → Type 0
   Keeps-Conjunction t = Keeps (conjunction_value t)
 
   abbrev With-Conjunction : Type 0
   With-Conjunction = (t : Conjunction) × Keeps-Conjunction t
-
-  abbrev equality_value : Equality → Evaluates
-  equality_value = fold-Equality Evaluates Evaluates Evaluates Evaluates Evaluates Evaluates Evaluates Evaluates Evaluates conjunction_step equality_step expression_step place_step primary_step relation_step sum_step term_step unary_step
 
   abbrev Keeps-Equality : Equality → Type 0
   Keeps-Equality t = Keeps (equality_value t)
@@ -115,17 +110,11 @@ module _ (S : Simulation) (b c : Below) (d : BelowBeside S b c) where
   abbrev With-Expression : Type 0
   With-Expression = (t : Expression) × Keeps-Expression t
 
-  abbrev place_value : Place → Evaluates
-  place_value = fold-Place Evaluates Evaluates Evaluates Evaluates Evaluates Evaluates Evaluates Evaluates Evaluates conjunction_step equality_step expression_step place_step primary_step relation_step sum_step term_step unary_step
-
   abbrev Keeps-Place : Place → Type 0
   Keeps-Place t = Keeps (place_value t)
 
   abbrev With-Place : Type 0
   With-Place = (t : Place) × Keeps-Place t
-
-  abbrev primary_value : Primary → Evaluates
-  primary_value = fold-Primary Evaluates Evaluates Evaluates Evaluates Evaluates Evaluates Evaluates Evaluates Evaluates conjunction_step equality_step expression_step place_step primary_step relation_step sum_step term_step unary_step
 
   abbrev Keeps-Primary : Primary → Type 0
   Keeps-Primary t = Keeps (primary_value t)
@@ -133,17 +122,11 @@ module _ (S : Simulation) (b c : Below) (d : BelowBeside S b c) where
   abbrev With-Primary : Type 0
   With-Primary = (t : Primary) × Keeps-Primary t
 
-  abbrev relation_value : Relation → Evaluates
-  relation_value = fold-Relation Evaluates Evaluates Evaluates Evaluates Evaluates Evaluates Evaluates Evaluates Evaluates conjunction_step equality_step expression_step place_step primary_step relation_step sum_step term_step unary_step
-
   abbrev Keeps-Relation : Relation → Type 0
   Keeps-Relation t = Keeps (relation_value t)
 
   abbrev With-Relation : Type 0
   With-Relation = (t : Relation) × Keeps-Relation t
-
-  abbrev sum_value : Sum → Evaluates
-  sum_value = fold-Sum Evaluates Evaluates Evaluates Evaluates Evaluates Evaluates Evaluates Evaluates Evaluates conjunction_step equality_step expression_step place_step primary_step relation_step sum_step term_step unary_step
 
   abbrev Keeps-Sum : Sum → Type 0
   Keeps-Sum t = Keeps (sum_value t)
@@ -151,17 +134,11 @@ module _ (S : Simulation) (b c : Below) (d : BelowBeside S b c) where
   abbrev With-Sum : Type 0
   With-Sum = (t : Sum) × Keeps-Sum t
 
-  abbrev term_value : Term → Evaluates
-  term_value = fold-Term Evaluates Evaluates Evaluates Evaluates Evaluates Evaluates Evaluates Evaluates Evaluates conjunction_step equality_step expression_step place_step primary_step relation_step sum_step term_step unary_step
-
   abbrev Keeps-Term : Term → Type 0
   Keeps-Term t = Keeps (term_value t)
 
   abbrev With-Term : Type 0
   With-Term = (t : Term) × Keeps-Term t
-
-  abbrev unary_value : Unary → Evaluates
-  unary_value = fold-Unary Evaluates Evaluates Evaluates Evaluates Evaluates Evaluates Evaluates Evaluates Evaluates conjunction_step equality_step expression_step place_step primary_step relation_step sum_step term_step unary_step
 
   abbrev Keeps-Unary : Unary → Type 0
   Keeps-Unary t = Keeps (unary_value t)

@@ -3,6 +3,7 @@ use Rattle.std.proofs.Common.{◌≡◌, ◌⊎◌, ℕ, Bool, true, false, ◌|
 use Rattle.std.proofs.lemmas.Bool.Decides.{nat_tests}
 use Rattle.std.specs.List.{list_any}
 use Rattle.mpl_mean.specs.Rules.{Failure, is_failure, is_before, lesser, least, is_empty, IsNotBehind}
+use Rattle.mpl_mean.proofs.Truth.{some_is}
 
 chosen : (a b : Failure) (t : Bool) → is_before a b ≡ t → IsNotBehind (if t then a else b) a × IsNotBehind (if t then a else b) b
 chosen a b true e = (inr (refl, grind (arith, nat_tests)), grind (arith, nat_tests))
@@ -25,9 +26,6 @@ either true t e = inl refl
 either false t e = inr e
 
 -- ---- what the least is
-
-some_is : {a b : Failure} → ◌≡◌ {A = Option Failure} (Some a) (Some b) → a ≡ b
-some_is e = cc
 
 found_first : (g : Failure) (gs : List Failure) → list_any (is_failure g.rule g.at) (g ∷ gs) ≡ true
 found_first g gs = rw (is_itself g) refl

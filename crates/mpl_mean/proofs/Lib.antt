@@ -22,7 +22,6 @@ mod UnlessSpent
 mod WorkedRun
 mod WorkedTokens
 mod Shown
-pub mod Levels
 mod Expressions
 mod Statements
 mod Programs
@@ -35,6 +34,7 @@ mod WorkedStatements
 mod WorkedPrograms
 mod WorkedLimits
 mod LeastFailure
+pub mod Truth
 pub mod FirstExpressions
 pub mod FirstActions
 pub mod FirstTypes
@@ -57,7 +57,6 @@ pub mod BothReadClasses
 pub mod OneTree
 mod SizedSteps
 mod SizedForms
-mod SizedExpressionLevels
 mod SizedExpressionForms
 mod SizedStatementForms
 mod SizedStores

@@ -22,10 +22,10 @@ use Rattle.mpl_mean.specs.Reading.{Reads, Rest, each, mark, name, node, nothing,
 use Rattle.mpl_mean.specs.StatementText.{block_text, type_text}
 use Rattle.mpl_mean.proofs.BothRead.{Reading, chain, if_read, in_turn, inside, one_end, one_place, parts, reading}
 use Rattle.mpl_mean.proofs.BothReadTokens.{Heads, one_first, one_name}
-use Rattle.mpl_mean.proofs.FirstExpressions.{both_true}
 use Rattle.mpl_mean.proofs.BothReadClasses.{class_starts, one_class}
 use Rattle.mpl_mean.proofs.BothReadLocals.{one_type, type_starts}
 use Rattle.mpl_mean.proofs.BothReadStatements.{one_main_block}
+use Rattle.mpl_mean.proofs.Truth.{both_true}
 
 -- ---- `main`
 

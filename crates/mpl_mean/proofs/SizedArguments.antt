@@ -1,5 +1,5 @@
 -- Arguments whose types are those of the formals have their words.
-use Rattle.std.proofs.Common.{◌≡◌, ℕ, Bool, true, false, ◌&&◌, ◌||◌, ◌==◌, List, [], ◌∷◌, length, map, Option, Some, None, if◌then◌else◌, refl, sym, ap, subst, ◌∙◌, arith}
+use Rattle.std.proofs.Common.{◌≡◌, ℕ, Bool, true, false, ◌||◌, ◌==◌, List, [], ◌∷◌, length, map, Option, Some, None, if◌then◌else◌, refl, sym, ap, subst, ◌∙◌, arith}
 use Rattle.std.proofs.lemmas.Bool.Decides.{nat_tests}
 use Rattle.std.specs.List.{AllZip, list_any}
 use Rattle.std.specs.Prelude.{is_none, is_some}
@@ -20,6 +20,7 @@ use Rattle.mpl_mean.proofs.SizedClasses.{bytes_same}
 use Rattle.mpl_mean.proofs.SizedRules.{WellDeclaration, WellDeclared, WellRoutine}
 use Rattle.mpl_mean.proofs.SizedSettings.{PlainFits}
 use Rattle.mpl_mean.proofs.SizedTypes.{HasSize, WellProgram, same_size, size, type_words}
+use Rattle.mpl_mean.proofs.Truth.{both_true, some_is}
 
 -- what is passed on with a type has its words, if it is known
 abbrev pub ArgHas : List Declaration → Option ValueType → Arg → Type 0
@@ -42,10 +43,6 @@ formal_value (AClass n true items) h = absurd cc
 formal_value (AClass n false items) h = refl
 formal_value Nothing h = absurd cc
 
-pub two_true : (a b : Bool) → (a && b) ≡ true → (a ≡ true) × (b ≡ true)
-two_true true b e = (refl, e)
-two_true false b e = absurd cc
-
 agrees : (ds : List Declaration) → WellProgram ds → (t : Option ValueType) (formal : Formal) (f : Option ValueType) → is_none t ≡ false → value_type AsFormal (meant ds formal.type_name) ≡ f → is_some f ≡ true
     → agree t f ≡ true → FormalHas ds t formal
 agrees ds well None formal f i e s h = absurd cc
@@ -59,7 +56,7 @@ zip_agrees ds well [] (formal ∷ formals) i e h w = absurd (omega arith)
 zip_agrees ds well (t ∷ ts) [] i e h w = absurd (omega arith)
 zip_agrees ds well (t ∷ ts) (formal ∷ formals) i e h w =
     let f = value_type AsFormal (meant ds formal.type_name) in
-    let two = two_true (agree t f) (all_agree ts (formal_types ds formals)) h in
+    let two = both_true (agree t f) (all_agree ts (formal_types ds formals)) h in
     let none = none_of (is_none t) (list_any is_none ts) i in
     (agrees ds well t formal f none.0 refl (formal_value (meant ds formal.type_name) w.0.0) two.0, zip_agrees ds well ts formals none.1 (omega arith) two.1 w.1) where
       none_of : (a b : Bool) → (a || b) ≡ false → (a ≡ false) × (b ≡ false)
@@ -69,7 +66,7 @@ zip_agrees ds well (t ∷ ts) (formal ∷ formals) i e h w =
 pub formals_agree : (ds : List Declaration) → WellProgram ds → (ts : List (Option ValueType)) (formals : List Formal) → list_any is_none ts ≡ false
     → arguments_fit ts (formal_types ds formals) ≡ true → Every (WellDeclared ds) (declared_formals formals) → AllZip (FormalHas ds) ts formals
 formals_agree ds well ts formals i h w =
-    let two = two_true (length ts == length (formal_types ds formals)) (list_any is_none ts || all_agree ts (formal_types ds formals)) h in
+    let two = both_true (length ts == length (formal_types ds formals)) (list_any is_none ts || all_agree ts (formal_types ds formals)) h in
     let e : (length ts == length (formal_types ds formals)) ≡ true = two.0 in
     let long : length ts ≡ length (formal_types ds formals) = grind (arith, nat_tests) in
     zip_agrees ds well ts formals i long (subst (λ b. (b || all_agree ts (formal_types ds formals)) ≡ true) i two.1) w
@@ -119,9 +116,6 @@ args_fit ds well ts formals args h e w = zip_args ds ts formals args (formals_ag
 
 -- ---- plain functions
 
-pub some_function : {a b : Function} → ◌≡◌ {A = Option Function} (Some a) (Some b) → a ≡ b
-some_function e = cc
-
 pub function_of : (whole : List Declaration) (name : List ℕ) (f : Function) (ds : List Declaration) → is_main name ≡ false → Every (WellDeclaration whole) ds → function_named name ds ≡ Some f → PlainFits whole f
 function_of whole name f [] m w e = absurd cc
 function_of whole name f (declaration.Struct at line struct fields ∷ ds) m w e = function_of whole name f ds m w.1 e
@@ -132,5 +126,5 @@ function_of whole name f (declaration.Function at result function formals body �
   chosen true i e k =
       let text = bytes_same function.text name i in
       let body_is : function_body function.text result ≡ InFunction result = ap (λ w. function_body w result) text ∙ ap (λ b. if b then InMain else InFunction result) m in
-      subst (PlainFits whole) (some_function e) (record { routine = subst (λ b. WellRoutine whole None b (formals_of formals) body) body_is w.0.0; result = w.0.1 })
+      subst (PlainFits whole) (some_is e) (record { routine = subst (λ b. WellRoutine whole None b (formals_of formals) body) body_is w.0.0; result = w.0.1 })
   chosen false i e k = k e

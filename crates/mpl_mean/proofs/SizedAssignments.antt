@@ -30,7 +30,7 @@ use Rattle.mpl_mean.specs.Store.{Variable, ◌>>=◌, waits}
 use Rattle.mpl_mean.specs.Types.{Declared, OfBool, OfClass, OfInt, OfStruct, Shape, AnArray, ARegular, OneValue, ValueType, agree, shape_of}
 use Rattle.mpl_mean.specs.Typing.{target_shape, type_of, type_of_element, type_of_whole}
 use Rattle.mpl_mean.specs.Values.{Value, word_of}
-use Rattle.mpl_mean.proofs.Levels.{phrase_of_conjunction, phrase_of_equality, phrase_of_primary, phrase_of_relation, phrase_of_sum, phrase_of_term, phrase_of_unary}
+use Rattle.mpl_mean.specs.ExpressionLevels.{phrase_of_conjunction, phrase_of_equality, phrase_of_primary, phrase_of_relation, phrase_of_sum, phrase_of_term, phrase_of_unary}
 use Rattle.mpl_mean.proofs.SizedArguments.{ArgHas}
 use Rattle.mpl_mean.proofs.SizedExpressionForms.{expression_means}
 use Rattle.mpl_mean.proofs.SizedExpressions.{value_keeps}

@@ -9,8 +9,9 @@ use Rattle.mpl_mean.specs.Nodes.{Placed, phrase_nodes}
 use Rattle.mpl_mean.specs.Nodes as node
 use Rattle.mpl_mean.specs.Phrases.{Phrase, begins}
 use Rattle.mpl_mean.specs.Scopes.{Here, behind, with_last}
-use Rattle.mpl_mean.specs.StatementNodes.{◌⨾◌, one, phrase_walk, scoped as scoped_walk, action_walk, locals_walk, phrases_if_any, print_walk, declared_local}
+use Rattle.mpl_mean.specs.StatementNodes.{◌⨾◌, one, phrase_walk, scoped as scoped_walk, action_walk, locals_walk, phrases_if_any, declared_local}
 use Rattle.mpl_mean.specs.Types.{Declared}
+use Rattle.mpl_mean.proofs.FirstBodies.{prints_after}
 use Rattle.mpl_mean.proofs.SizedLocals.{blocks_behind}
 use Rattle.mpl_mean.proofs.SizedSettings.{Setting, here}
 use Rattle.mpl_mean.proofs.SizedSteps.{Frame}
@@ -40,10 +41,7 @@ after_is G S (action.Creates at t) blocks = refl
 after_is G S (action.Branches test a b) blocks = refl
 after_is G S (action.Repeats test a) blocks = refl
 after_is G S (action.Loops start test step a) blocks = refl
-after_is G S (action.Prints at ps) blocks = print_after ps where
-  print_after : (ps : List Phrase) → (print_walk ps (here G S blocks)).after ≡ here G S blocks
-  print_after [] = refl
-  print_after (p ∷ ps) = print_after ps
+after_is G S (action.Prints at ps) blocks = prints_after (here G S blocks) ps
 after_is G S (action.Gives at p) blocks = refl
 after_is G S (action.Returns at p) blocks = none_or_some p (here G S blocks)
 

@@ -22,6 +22,7 @@ use Rattle.mpl_mean.proofs.SizedClasses.{ClassFound}
 use Rattle.mpl_mean.proofs.SizedRules.{WellItem, WellMember}
 use Rattle.mpl_mean.proofs.SizedSettings.{Callees, RegularFits}
 use Rattle.mpl_mean.proofs.SizedTypes.{WellProgram, class_of, not_bool, not_int, value_of_shape}
+use Rattle.mpl_mean.proofs.Truth.{some_is}
 
 -- ---- members with other numbers
 
@@ -45,9 +46,6 @@ members_alike name i j (item.Public at ∷ items) = members_alike name i j items
 members_alike name i j (item.Private at ∷ items) = members_alike name i j items
 members_alike name i j (item.Empty at ∷ items) = members_alike name i j items
 
-some_member : {a b : Member} → ◌≡◌ {A = Option Member} (Some a) (Some b) → a ≡ b
-some_member e = cc
-
 pub member_well : (ds : List Declaration) (class : Surrounding) (name : List ℕ) (id : ℕ) (items : List Item) (m : Member) → Every (WellItem ds class) items → member_named name (members_from id items) ≡ Some m
     → WellMember ds class m.result m.formals m.body
 member_well ds class name id [] m w e = absurd cc
@@ -56,7 +54,7 @@ member_well ds class name id (item.Member at result member formals body ∷ item
   chosen : (b : Bool) (first : Member) → WellMember ds class first.result first.formals first.body ≡ WellItem ds class (item.Member at result member formals body)
       → (if b then Some first else member_named name (members_from (id + 1) items)) ≡ Some m
       → (member_named name (members_from (id + 1) items) ≡ Some m → WellMember ds class m.result m.formals m.body) → WellMember ds class m.result m.formals m.body
-  chosen true first i e k = subst (λ (m : Member). WellMember ds class m.result m.formals m.body) (some_member e) (subst (λ T. T) (sym i) w.0)
+  chosen true first i e k = subst (λ (m : Member). WellMember ds class m.result m.formals m.body) (some_is e) (subst (λ T. T) (sym i) w.0)
   chosen false first i e k = k e
 member_well ds class name id (item.Select at line entries ∷ items) m w e = member_well ds class name id items m w.1 e
 member_well ds class name id (item.Public at ∷ items) m w e = member_well ds class name id items m w.1 e

@@ -1,5 +1,5 @@
 -- What is found by the names of types and members, where the names of declarations differ.
-use Rattle.std.proofs.Common.{◌≡◌, ℕ, ◌+◌, ◌≤◌, ◌<◌, Bool, true, false, ◌||◌, List, [], ◌∷◌, ◌++◌, length, Option, Some, None, if◌then◌else◌, refl, sym, ap, subst, ◌∙◌, arith}
+use Rattle.std.proofs.Common.{◌≡◌, ℕ, ◌+◌, ◌≤◌, ◌<◌, Bool, true, false, List, [], ◌∷◌, ◌++◌, length, Option, Some, None, if◌then◌else◌, refl, sym, ap, subst, ◌∙◌, arith}
 use Rattle.std.proofs.lemmas.Bool.Decides.{nat_tests}
 use Rattle.std.proofs.lemmas.List.Folds.{list_any-append}
 use Rattle.std.proofs.lemmas.Slice.Eq.{bytes_eq-Decides}
@@ -22,6 +22,7 @@ use Rattle.mpl_mean.specs.Scopes.{Surrounding}
 use Rattle.mpl_mean.specs.Sizes.{Every}
 use Rattle.mpl_mean.specs.Types.{AClass, AStruct, meant_by}
 use Rattle.mpl_mean.proofs.SizedRules.{WellClass, WellDeclaration}
+use Rattle.mpl_mean.proofs.Truth.{or_left, or_right, some_is}
 
 pub bytes_same : (a b : List ℕ) → bytes_eq a b ≡ true → a ≡ b
 bytes_same a b e = (bytes_eq-Decides a b).0 e
@@ -33,13 +34,6 @@ bytes_itself a = (bytes_eq-Decides a a).1 refl
 abbrev pub NamesDiffer : List (List ℕ) → List Declaration → Type 0
 NamesDiffer earlier [] = Unit {0}
 NamesDiffer earlier (d ∷ ds) = (list_any (bytes_eq (declared_name d).text) earlier ≡ false) × NamesDiffer (earlier ++ (declared_name d).text ∷ []) ds
-
-or_left : (a b : Bool) → a ≡ true → (a || b) ≡ true
-or_left a b e = subst (λ a. (a || b) ≡ true) (sym e) refl
-
-or_right : (a b : Bool) → b ≡ true → (a || b) ≡ true
-or_right true b e = refl
-or_right false b e = e
 
 pub among_more : (name : List ℕ) (earlier more : List (List ℕ)) → list_any (bytes_eq name) earlier ≡ true → list_any (bytes_eq name) (earlier ++ more) ≡ true
 among_more name earlier more h = list_any-append (bytes_eq name) earlier more ∙ or_left _ _ h
@@ -60,9 +54,6 @@ struct_absent name earlier (declaration.Function at result function formals body
     struct_absent name (earlier ++ function.text ∷ []) ds (among_more name earlier (function.text ∷ []) h) n.1
 
 -- ---- members
-
-some_is : {A : Type 0} {a b : A} → ◌≡◌ {A = Option A} (Some a) (Some b) → a ≡ b
-some_is e = cc
 
 none_above : (k id : ℕ) (items : List Item) → id + length (members_from id items) ≤ k → member_numbered k (members_from id items) ≡ None
 none_above k id [] h = refl

@@ -16,10 +16,9 @@ use Rattle.mpl_mean.specs.ExpressionMeaning.{Evaluates, conjunction_step, equali
 use Rattle.mpl_mean.specs.ExpressionMeaning as expression
 use Rattle.mpl_mean.specs.Phrases.{Phrase, listed, phrase_of, phrase_of_place}
 use Rattle.mpl_mean.specs.Phrases as phrase
-use Rattle.mpl_mean.proofs.Levels.{phrase_of_conjunction, phrase_of_equality, phrase_of_primary, phrase_of_relation, phrase_of_sum, phrase_of_term, phrase_of_unary}
+use Rattle.mpl_mean.specs.ExpressionLevels.{phrase_of_conjunction, phrase_of_equality, phrase_of_primary, phrase_of_relation, phrase_of_sum, phrase_of_term, phrase_of_unary, conjunction_value, conjunction_name, equality_value, equality_name, place_value, place_name, primary_value, primary_name, relation_value, relation_name, sum_value, sum_name, term_value, term_name, unary_value, unary_name}
 use Rattle.mpl_mean.proofs.SizedForms.{Means, number, truth, own, input, whole, element, plain, parenthesized, unary, arithmetic, compares, equates, or, and, MeansEach}
 use Rattle.mpl_mean.proofs.SizedForms as each
-use Rattle.mpl_mean.proofs.SizedExpressionLevels.{conjunction_value, conjunction_name, equality_value, equality_name, place_value, place_name, primary_value, primary_name, relation_value, relation_name, sum_value, sum_name, term_value, term_name, unary_value, unary_name}
 
 three : {v w : Evaluates} {p q : Phrase} {m n : MayName} → v ≡ w → p ≡ q → m ≡ n → Means v p m → Means w q n
 three {v} {w} {p} {q} {m} {n} i j k h = subst (λ w. Means w q n) i (subst (λ q. Means v q n) j (subst (λ n. Means v p n) k h))

@@ -21,7 +21,7 @@ use Rattle.mpl_mean.specs.Types.{AsResult, Declared, meant, shape_of, value_type
 use Rattle.mpl_mean.specs.Typing.{target_shape, type_of, type_of_element, type_of_plain_call, type_of_whole, types_of}
 use Rattle.mpl_mean.specs.Values.{Value, is_true}
 use Rattle.mpl_mean.proofs.SizedAnswers.{ListsFit, all_keep, zip_from}
-use Rattle.mpl_mean.proofs.SizedArguments.{ValueHas, function_of, some_function, words_fit}
+use Rattle.mpl_mean.proofs.SizedArguments.{ValueHas, function_of, words_fit}
 use Rattle.mpl_mean.proofs.SizedForms.{Means, MeansEach, number, truth, own, input, whole, element, plain, parenthesized, unary, arithmetic, compares, equates, or, and}
 use Rattle.mpl_mean.proofs.SizedForms as each
 use Rattle.mpl_mean.proofs.SizedPlaces.{SpotRight, index_keeps, spot_keeps, which, words_keeps}
@@ -31,6 +31,7 @@ use Rattle.mpl_mean.proofs.SizedSteps.{Frame, Keeps, computes, from_premise, giv
 use Rattle.mpl_mean.proofs.SizedStores.{inputs_keeps}
 use Rattle.mpl_mean.proofs.SizedTyping.{chosen_function, element_size, type_there, whole_size}
 use Rattle.mpl_mean.proofs.SizedTypes.{HasSize, WellProgram, binary_size, own_size, size, type_words, unary_size}
+use Rattle.mpl_mean.proofs.Truth.{some_is}
 
 -- ---- places
 
@@ -59,9 +60,9 @@ called_keeps G S s vs (Some f) arguments h =
     (from_premise G vs
     (λ p.
     let g = h p in
-    subst (λ f. PlainFits G.declarations f × ListsFit G.declarations f.formals arguments) (sym (some_function g.1)) (g.2, g.3))
+    subst (λ f. PlainFits G.declarations f × ListsFit G.declarations f.formals arguments) (sym (some_is g.1)) (g.2, g.3))
     ((s.below).plain G.state_words G.result_words G.calls G.MayReturn vs f arguments))
-    (λ words. give_keeps G vs _ (λ p g e. p.1 ∙ ap (λ (f : Function). words_of G.declarations f.result None) (some_function e)))
+    (λ words. give_keeps G vs _ (λ p g e. p.1 ∙ ap (λ (f : Function). words_of G.declarations f.result None) (some_is e)))
 
 -- ---- all expressions
 

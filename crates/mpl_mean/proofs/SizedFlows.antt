@@ -23,7 +23,7 @@ use Rattle.mpl_mean.specs.Types.{Declared, ValueType, shape_of}
 use Rattle.mpl_mean.specs.Typing.{member_called, member_of, target_shape, type_of, types_of}
 use Rattle.mpl_mean.specs.Values.{first_word}
 use Rattle.mpl_mean.proofs.SizedAnswers.{IsMember, zip_from}
-use Rattle.mpl_mean.proofs.SizedArguments.{ArgHas, args_fit, two_true}
+use Rattle.mpl_mean.proofs.SizedArguments.{ArgHas, args_fit}
 use Rattle.mpl_mean.proofs.SizedCallees.{ClassOf, MemberOf, callees_of, class_at, regular_of}
 use Rattle.mpl_mean.proofs.SizedCalls.{CallHas, bound_keeps, if_known, member_keeps, object_may, own_may, pass_keeps, passed_has, persistent_keeps, regular_keeps}
 use Rattle.mpl_mean.proofs.SizedExpressionForms.{expression_means}
@@ -35,6 +35,7 @@ use Rattle.mpl_mean.proofs.SizedSettings.{Callee, Callees, Matches, MayCall, Set
 use Rattle.mpl_mean.proofs.SizedStatementForms.{call_passes, flow_passes}
 use Rattle.mpl_mean.proofs.SizedSteps.{Frame, Keeps, from_premise, so_keeps, stop_keeps, then_keeps}
 use Rattle.mpl_mean.proofs.SizedTypes.{WellProgram}
+use Rattle.mpl_mean.proofs.Truth.{both_true}
 
 -- the member that the type rules see, where one is called
 callee_seen : (ds : List Declaration) (R : Member → Type 0) (n o : Option Member) (m : Member) → Callees ds R n o → o ≡ Some m → (k : Member) × (n ≡ Some k) × Callee ds m k × R m
@@ -90,7 +91,7 @@ module _ (G : Frame) (S : Setting) (s : Sound G S) (blocks : List (List Declared
       (λ m.
       so_keeps G vs (λ p. p) (λ a p h. let c = seen m p in call_has G.declarations (Called None member) m c.0 a c.1 c.2 h)
       (persistent_keeps G S s blocks vs S.context.object m (types_of (here G S blocks) ps) fs (zip_from G vs (ArgHas G.declarations) (λ p. p.0) _ fs r) (λ p. (seen m p).3)
-      (λ p. let c = seen m p in callee_fits s.well (types_of (here G S blocks) ps) (Called None member) m c.0 c.1 c.2 (two_true _ _ ((ready p.0).1).0.call).1)
+      (λ p. let c = seen m p in callee_fits s.well (types_of (here G S blocks) ps) (Called None member) m c.0 c.1 c.2 (both_true _ _ ((ready p.0).1).0.call).1)
       (λ p. own_may S.body S.class (own p.0)))) where
         own : P → (is_in_member S.body && is_persistent S.class) ≡ true
         own p = ((ready p).1).1.1.0.own
@@ -98,7 +99,7 @@ module _ (G : Frame) (S : Setting) (s : Sound G S) (blocks : List (List Declared
         seen : (m : Member) → P × (member_named member.text S.context.members ≡ Some m) → (k : Member) × (Called None member ≡ Some k) × Callee G.declarations m k × IsMember G.declarations m
         seen m p =
             callee_seen G.declarations (IsMember G.declarations) (Called None member) (member_named member.text S.context.members) m
-            (s.own blocks member.text (two_true (is_in_member S.body) (is_persistent S.class) (own p.0)).1) p.1
+            (s.own blocks member.text (both_true (is_in_member S.body) (is_persistent S.class) (own p.0)).1) p.1
 
   -- ---- on a target
 
@@ -114,7 +115,7 @@ module _ (G : Frame) (S : Setting) (s : Sound G S) (blocks : List (List Declared
           subst (λ w. ClassOf G.declarations w (target_shape (here G S blocks) t)) (sym (p.1).fits.type)
               (subst (λ k. ClassOf G.declarations d.type k) (sym e)
               (class_at G.declarations d (shape_of G.declarations (Some d)) refl (p.1).fits.well.0
-              (subst (λ k. can_be_called k ≡ true) e (two_true _ _ ((ready p.0).1).0.call).0))),
+              (subst (λ k. can_be_called k ≡ true) e (both_true _ _ ((ready p.0).1).0.call).0))),
         )
 
     abbrev Seen : Bool → Member → Type 0
@@ -139,7 +140,7 @@ module _ (G : Frame) (S : Setting) (s : Sound G S) (blocks : List (List Declared
         → (Q → member_named member.text class.members ≡ Some m) → Q → (args : List Arg) → AllZip (ArgHas G.declarations) (types_of (here G S blocks) ps) args → ArgumentsFit G.declarations m.formals args
     takes h spot class i m spotted e q =
         let c = seen spot class i m (h q, spotted q) (e q) in
-        callee_fits s.well (types_of (here G S blocks) ps) (Called (Some t) member) m c.0 c.1 c.2 (two_true _ _ ((ready (h q)).1).0.call).1
+        callee_fits s.well (types_of (here G S blocks) ps) (Called (Some t) member) m c.0 c.1 c.2 (both_true _ _ ((ready (h q)).1).0.call).1
 
     may : (spot : Spot) (class : Class) → class_of_type G.declarations spot.type ≡ Some class → (p : P × SpotRight G S blocks vs t (Some spot)) → class.is_regular ≡ false → MayCall S
     may spot class i p e =

@@ -1,5 +1,5 @@
 -- Locals: what is declared in the scope is what is declared in the store.
-use Rattle.std.proofs.Common.{◌≡◌, ℕ, Bool, true, false, not, ◌||◌, List, [], ◌∷◌, ◌++◌, map, Option, Some, None, if◌then◌else◌, pos, refl, sym, ap, subst, ◌∙◌, true≢false}
+use Rattle.std.proofs.Common.{◌≡◌, ℕ, Bool, true, false, ◌||◌, List, [], ◌∷◌, ◌++◌, map, Option, Some, None, if◌then◌else◌, pos, refl, sym, ap, subst, ◌∙◌, true≢false}
 use Rattle.std.proofs.lemmas.List.{length-replicate}
 use Rattle.std.proofs.lemmas.List.Folds.{list_any-append}
 use Rattle.std.specs.List.{list_any}
@@ -24,7 +24,7 @@ use Rattle.mpl_mean.specs.StatementNodes.{declared_local, dimension_nodes, local
 use Rattle.mpl_mean.specs.Store.{Variable, in_turn, variable_named}
 use Rattle.mpl_mean.specs.Types.{AClass, ABool, AnInt, AStruct, AsLocal, Declared, Meant, Nothing, AnArray, ARegular, OneValue, Shape, agree, first_named, meant, names, shape_of, shape_of_meant}
 use Rattle.mpl_mean.specs.Typing.{type_of, type_of_whole}
-use Rattle.mpl_mean.proofs.SizedArguments.{ArgHas, two_true}
+use Rattle.mpl_mean.proofs.SizedArguments.{ArgHas}
 use Rattle.mpl_mean.proofs.SizedAssignments.{agree_arg}
 use Rattle.mpl_mean.proofs.SizedClasses.{bytes_itself, bytes_same}
 use Rattle.mpl_mean.proofs.SizedFlows.{flow_keeps}
@@ -34,6 +34,7 @@ use Rattle.mpl_mean.proofs.SizedSettings.{Matches, PlaceFits, Setting, Sound, he
 use Rattle.mpl_mean.proofs.SizedSteps.{Frame, from_premise, give_keeps}
 use Rattle.mpl_mean.proofs.SizedTypes.{array_of_shape}
 use Rattle.mpl_mean.proofs.SizedTyping.{whole_size}
+use Rattle.mpl_mean.proofs.Truth.{both_true, not_true}
 
 -- ---- a new name in a scope
 
@@ -105,13 +106,9 @@ one_of ds name t (Some (OneValue v)) e h = refl
 one_of ds name t (Some (AnArray v)) e h = absurd (let d = (array_of_shape AsLocal None (meant ds t) v e).0.1 in cc)
 one_of ds name t (Some (ARegular items)) e h = absurd cc
 
-not_true : (b : Bool) → not b ≡ true → b ≡ false
-not_true true e = absurd cc
-not_true false e = refl
-
 dimension_element : (G : Frame) (S : Setting) (blocks : List (List Declared)) (t : TypeName) (dimension : Option Dimension) → AllRight (dimension_nodes (here G S blocks) t dimension) → IsElement dimension t
 dimension_element G S blocks t None r = tt
-dimension_element G S blocks t (Some dimension) r = (two_true (is_size (layout.natural dimension.number.value)) (is_element t) r.0.dimension).1
+dimension_element G S blocks t (Some dimension) r = (both_true (is_size (layout.natural dimension.number.value)) (is_element t) r.0.dimension).1
 
 -- the blocks behind some locals
 abbrev pub blocks_behind : TypeName → List NewLocal → List (List Declared) → List (List Declared)
@@ -147,7 +144,7 @@ module _ (G : Frame) (S : Setting) (s : Sound G S) (type : TypeName) where
       (λ a.
       declare_moves (Matches G S (with_last d blocks)) _
       (λ p.
-      let two = two_true (is_no_regular (shape_of G.declarations (Some d))) (agree (type_of_whole (shape_of G.declarations (Some d))) (type_of h (phrase_of_flow value))) (p.0.1).1.0.right_side in
+      let two = both_true (is_no_regular (shape_of G.declarations (Some d))) (agree (type_of_whole (shape_of G.declarations (Some d))) (type_of h (phrase_of_flow value))) (p.0.1).1.0.right_side in
       agree_arg G.declarations (type_of_whole (shape_of G.declarations (Some d))) (type_of h (phrase_of_flow value)) (words_of G.declarations type None) a
       (whole_size s.well d (words_of G.declarations type None) (shape_of G.declarations (Some d)) refl (local_shape None (meant G.declarations type) p.0.2)
       (one_of G.declarations variable.text type (shape_of G.declarations (Some d)) refl two.0) refl) two.1 p.1)

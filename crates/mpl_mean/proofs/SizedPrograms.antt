@@ -27,11 +27,11 @@ use Rattle.mpl_mean.specs.SizeRules.{is_element, is_size, meant_may_stand}
 use Rattle.mpl_mean.specs.Sizes.{Every}
 use Rattle.mpl_mean.specs.StatementNodes.{dimension_nodes}
 use Rattle.mpl_mean.specs.Types.{AClass, ABool, AnInt, AStruct, AsFormal, AsResult, InState, InStruct, Meant, Nothing, Role, declared_by, declared_fields, declared_formals, meant, shape_of_meant, value_type}
-use Rattle.mpl_mean.proofs.SizedArguments.{two_true}
 use Rattle.mpl_mean.proofs.SizedClasses.{NamesDiffer}
 use Rattle.mpl_mean.proofs.SizedRules.{AllRight, IsElement, Right, WellDeclaration, WellDeclared, WellItem, WellMain, WellResult, every_left, every_right, typed_right}
 use Rattle.mpl_mean.proofs.SizedStores.{every_append}
 use Rattle.mpl_mean.proofs.SizedTypes.{WellProgram}
+use Rattle.mpl_mean.proofs.Truth.{both_true, not_true}
 
 -- ---- types that are written
 
@@ -67,13 +67,9 @@ result_value (AClass n true items) h i = absurd cc
 result_value (AClass n false items) h i = refl
 result_value Nothing h i = absurd cc
 
-not_true : (b : Bool) → not b ≡ true → b ≡ false
-not_true true e = absurd cc
-not_true false e = refl
-
 dimension_element : (here : Here) (t : TypeName) (dimension : Option Dimension) → AllRight (dimension_nodes here t dimension) → IsElement dimension t
 dimension_element here t None r = tt
-dimension_element here t (Some dimension) r = (two_true (is_size (natural dimension.number.value)) (is_element t) r.0.dimension).1
+dimension_element here t (Some dimension) r = (both_true (is_size (natural dimension.number.value)) (is_element t) r.0.dimension).1
 
 -- ---- fields and formals
 
@@ -180,7 +176,7 @@ stateless ds class before (item.Empty at ∷ items) r e = stateless ds class bef
 
 main_well : (named : Bool) (name : List ℕ) (formals : List Formal) (int : Bool) → is_main name ≡ named → (named ≡ true → (int && are_no_formals formals) ≡ true) → WellMain name formals
 main_well named name [] int e h = tt
-main_well true name (formal ∷ formals) int e h = absurd (let k = (two_true int false (h refl)).1 in cc)
+main_well true name (formal ∷ formals) int e h = absurd (let k = (both_true int false (h refl)).1 in cc)
 main_well false name (formal ∷ formals) int e h = e
 
 main_asks : (named : Bool) (d : Declaration) → main_is_right named d ≡ true → named ≡ true → is_int_without_formals d ≡ true

@@ -20,6 +20,7 @@ use Rattle.mpl_mean.specs.Types.{AClass, AStruct, meant_by}
 use Rattle.mpl_mean.proofs.SizedAnswers.{ListsFit}
 use Rattle.mpl_mean.proofs.SizedClasses.{NamesDiffer, bytes_itself, bytes_same, class_declared}
 use Rattle.mpl_mean.proofs.SizedRules.{WellClass, WellDeclaration, WellItem, WellMain, WellMember, WellRoutine}
+use Rattle.mpl_mean.proofs.Truth.{some_is}
 
 -- ---- arguments
 
@@ -31,9 +32,6 @@ split_fit ds (formal ∷ formals) words h =
     (length-take-le n words (omega arith), split_fit ds formals (drop n words) (omega (arith, length-drop n words)))
 
 -- ---- `main`
-
-some_function : {a b : Function} → ◌≡◌ {A = Option Function} (Some a) (Some b) → a ≡ b
-some_function e = cc
 
 no_formals : (name : List ℕ) (formals : List Formal) → is_main name ≡ true → WellMain name formals → formals ≡ []
 no_formals name [] e w = refl
@@ -50,14 +48,11 @@ main_of whole f (declaration.Function at result function formals body ∷ ds) w 
       → (function_named (codes "main") ds ≡ Some f → WellRoutine whole None InMain f.formals f.body × (f.formals ≡ [])) → WellRoutine whole None InMain f.formals f.body × (f.formals ≡ [])
   chosen true i e k =
       let body_is : function_body function.text result ≡ InMain = ap (λ b. if b then InMain else InFunction result) i in
-      subst (λ (f : Function). WellRoutine whole None InMain f.formals f.body × (f.formals ≡ [])) (some_function e)
+      subst (λ (f : Function). WellRoutine whole None InMain f.formals f.body × (f.formals ≡ [])) (some_is e)
       (subst (λ b. WellRoutine whole None b (formals_of formals) body) body_is w.0.0, no_formals function.text (formals_of formals) i w.0.2)
   chosen false i e k = k e
 
 -- ---- members by their numbers
-
-some_member : {a b : Member} → ◌≡◌ {A = Option Member} (Some a) (Some b) → a ≡ b
-some_member e = cc
 
 number_well : (ds : List Declaration) (class : Surrounding) (k id : ℕ) (items : List Item) (m : Member) → Every (WellItem ds class) items → member_numbered k (members_from id items) ≡ Some m
     → WellMember ds class m.result m.formals m.body
@@ -66,7 +61,7 @@ number_well ds class k id (item.OfField at field ∷ items) m w e = number_well 
 number_well ds class k id (item.Member at result member formals body ∷ items) m w e = chosen (nat_eq id k) _ w.0 e (number_well ds class k (id + 1) items m w.1) where
   chosen : (b : Bool) (first : Member) → WellMember ds class first.result first.formals first.body → (if b then Some first else member_numbered k (members_from (id + 1) items)) ≡ Some m
       → (member_numbered k (members_from (id + 1) items) ≡ Some m → WellMember ds class m.result m.formals m.body) → WellMember ds class m.result m.formals m.body
-  chosen true first i e k = subst (λ (m : Member). WellMember ds class m.result m.formals m.body) (some_member e) i
+  chosen true first i e k = subst (λ (m : Member). WellMember ds class m.result m.formals m.body) (some_is e) i
   chosen false first i e k = k e
 number_well ds class k id (item.Select at line entries ∷ items) m w e = number_well ds class k id items m w.1 e
 number_well ds class k id (item.Public at ∷ items) m w e = number_well ds class k id items m w.1 e

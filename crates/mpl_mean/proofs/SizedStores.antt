@@ -18,6 +18,7 @@ use Rattle.mpl_mean.specs.Store.{Store, Goes, Doing, Variable, hold, holding, pr
 use Rattle.mpl_mean.specs.Values.{Value, is_true}
 use Rattle.mpl_mean.proofs.Follows.{store_after}
 use Rattle.mpl_mean.proofs.SizedSteps.{Frame, Keeps, Fits, VariableFits, After, bare, variable_words, front_itself, give_keeps, stop_keeps, spend_keeps, then_keeps, from_premise, if_keeps}
+use Rattle.mpl_mean.proofs.Truth.{some_is}
 
 -- ---- words
 
@@ -50,9 +51,6 @@ bare_holding name a (v ∷ vs) = chosen (bytes_eq v.name name) (bare_holding nam
 -- what the newest variable of this name may hold
 abbrev pub MayHold : List Declaration → List ℕ → Arg → List Variable → Type 0
 MayHold ds name a vs = (w : Variable) × (variable_named name vs ≡ Some w) × ArgFits (variable_words ds w) a
-
-some_is : {A : Type 0} {a b : A} → ◌≡◌ {A = Option A} (Some a) (Some b) → a ≡ b
-some_is e = cc
 
 pub holding_fits : (ds : List Declaration) (name : List ℕ) (a : Arg) (vs : List Variable) → MayHold ds name a (map bare vs) → Every (VariableFits ds) vs → Every (VariableFits ds) (holding name a vs)
 holding_fits ds name a [] m h = tt

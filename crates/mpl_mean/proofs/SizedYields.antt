@@ -1,5 +1,5 @@
 -- The law of sizes.
-use Rattle.std.proofs.Common.{◌≡◌, ℕ, Bool, true, false, not, List, [], ◌∷◌, length, map, Option, Some, None, if◌then◌else◌, refl, sym, ap, subst, ◌∙◌, arith}
+use Rattle.std.proofs.Common.{◌≡◌, ℕ, true, not, List, [], ◌∷◌, length, map, Option, Some, None, if◌then◌else◌, refl, sym, ap, subst, ◌∙◌, arith}
 use Rattle.std.specs.FinMap.{FinMap}
 use Rattle.std.specs.Option.{option_and_then, option_map}
 use Rattle.std.specs.Ordering.{nat_cmp}
@@ -36,6 +36,7 @@ use Rattle.mpl_mean.proofs.SizedSettings.{Callees, Setting, Sound, frame}
 use Rattle.mpl_mean.proofs.SizedStarts.{ClassNumbered, class_numbered, main_of, split_fit, surrounding_of}
 use Rattle.mpl_mean.proofs.SizedSteps.{After, Frame, Rest, bare, front_itself}
 use Rattle.mpl_mean.proofs.SizedTypes.{WellProgram}
+use Rattle.mpl_mean.proofs.Truth.{not_true}
 
 -- what is shown of the yield of a start, by the words of its result and of its state
 pub record YieldFits (ds : List Declaration) (words : Option ℕ) (state : ℕ) (yield : Yield) : Type 0 where
@@ -71,10 +72,6 @@ main_calls : (o : Outcome (Unit {0})) → (main_yield o).calls ≡ (store_after 
 main_calls (Goes value after) = refl
 main_calls (Returns words after) = refl
 main_calls (Ends e after) = refl
-
-not_regular : (b : Bool) → not b ≡ true → b ≡ false
-not_regular true e = absurd cc
-not_regular false e = refl
 
 callees_as : (ds : List Declaration) (R T : Member → Type 0) (n o : Option Member) → ((m : Member) → R m → T m) → Callees ds R n o → Callees ds T n o
 callees_as ds R T None None h c = tt
@@ -145,7 +142,7 @@ module _ (ds : List Declaration) (well : WellProgram ds) (replies : FinMap nat_c
         (member_named name (found.0).members)
     own_fits blocks name e =
         subst (λ b. Callees ds (IsMember ds) (option_and_then (member_of name) (items_called ds (option_map OneValue (if b then None else Some (OfClass (found.0).name))))) (member_named name (found.0).members))
-        (sym (not_regular (found.0).is_regular e))
+        (sym (not_true (found.0).is_regular e))
         (subst (λ m. Callees ds (IsMember ds) (option_and_then (member_of name) (items_of_meant m)) (member_named name (found.0).members)) (sym is.meant)
         (callees_as ds (MemberOf ds (found.0).is_regular) (IsMember ds) (member_of name is.items) (member_named name (found.0).members) (λ m h. h.is)
         (callees_of well (found.0).name (found.0).name (found.0).is_regular is.items is.meant found.0 is.named name)))

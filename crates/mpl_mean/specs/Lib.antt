@@ -18,6 +18,7 @@ pub mod BodyMeaning
 pub mod DirectRun
 pub mod MoreReplies
 pub mod Phrases
+pub mod ExpressionLevels
 pub mod Actions
 pub mod Types
 pub mod Scopes

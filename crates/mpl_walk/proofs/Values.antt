@@ -10,7 +10,8 @@ use Rattle.mpl_mean.specs.ExpressionMeaning.{Evaluates, arithmetic_of, term_oper
 use Rattle.mpl_mean.specs.Store.{Store, and_then, computed, give}
 use Rattle.mpl_mean.specs.Values.{first_word, int_value, word_of}
 use Rattle.mpl_value.specs.declared.known.TrapKind.{TrapKind}
-use Rattle.mpl_walk.specs.Evaluated.{evaluated, on_line, term_value, unary_value}
+use Rattle.mpl_mean.specs.ExpressionLevels.{term_value, unary_value}
+use Rattle.mpl_walk.specs.Evaluated.{evaluated, on_line}
 use Rattle.mpl_walk.specs.Held.{words_held}
 
 computed_value : (line : ℕ) (outcome : Result ℤ TrapKind) (s : Store)

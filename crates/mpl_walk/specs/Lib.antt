@@ -2,4 +2,3 @@ pub mod Evaluated
 pub mod Found
 pub mod Held
 pub mod Runs
-pub mod WholeName

@@ -6,7 +6,8 @@ ghost use Rattle.mpl_mean.specs.ExpressionMeaning.{value_of};
 ghost use Rattle.mpl_mean.specs.PlaceMeaning.{spot_of_name, words_of_spot};
 ghost use Rattle.mpl_mean.specs.StatementMeaning.{values_of};
 ghost use Rattle.mpl_mean.specs.Store.{Store, variable_named};
-ghost use Rattle.mpl_walk.specs.Evaluated.{evaluated, conjunction_value, equality_value, relation_value, sum_value, term_value, unary_value, primary_value, place_value, on_line};
+ghost use Rattle.mpl_mean.specs.ExpressionLevels.{conjunction_value, equality_value, relation_value, sum_value, term_value, unary_value, primary_value, place_value};
+ghost use Rattle.mpl_walk.specs.Evaluated.{evaluated, on_line};
 ghost use Rattle.mpl_walk.specs.Held.{Stands, value_held};
 ghost use Rattle.mpl_walk.specs.Runs.{Comes};
 

@@ -2,9 +2,10 @@ use Rattle.std.proofs.Common.{◌+◌, ◌≤◌, ℕ, Bool, arith, drop, length
 use Rattle.std.specs.Prelude.{filter}
 use Rattle.mpl_ast.specs.declared.statement.Statement.{Statement, out-Statement}
 use Rattle.mentat_cmd.specs.Bodies.{declares_number}
-use Rattle.mentat_cmd.proofs.Lists.{all_counted, next_left, no_more, none_left, one_more}
+use Rattle.mentat_cmd.proofs.Lists.{all_counted, no_more, one_more}
 use Rattle.mentat_cmd.proofs.bodies.numbers.Goals as goal
 use Rattle.mentat_cmd.proofs.bodies.numbers.Goals.{then-declares_number, else-declares_number}
+use Rattle.mpl_walk.proofs.Lists.{next_left, none_left}
 
 pub loop-statement-preserved : goal.loop-statement-preserved
 loop-statement-preserved c =

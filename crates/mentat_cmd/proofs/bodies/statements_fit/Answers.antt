@@ -2,9 +2,9 @@ use Rattle.std.proofs.Common.{◌+◌, Some, arith, drop, sym, ap, ◌∙◌}
 use Rattle.mentat_cmd.specs.Bodies.{statements_fit}
 use Rattle.mentat_cmd.specs.Scope.{Scope}
 use Rattle.mentat_cmd.specs.Variables.{seen}
-use Rattle.mentat_cmd.proofs.Lists.{next_left, none_left}
 use Rattle.mentat_cmd.proofs.BodyLemmas.{statement_failed, statement_passed}
 use Rattle.mentat_cmd.proofs.bodies.statements_fit.Goals as goal
+use Rattle.mpl_walk.proofs.Lists.{next_left, none_left}
 
 pub loop-statement-init : goal.loop-statement-init
 loop-statement-init c = ap (λ (scope : Scope). statements_fit c.args.declarations.now (Some scope) c.args.statements.now) c.new-variables.ensures

@@ -1,7 +1,7 @@
 use Rattle.std.proofs.Common.{◌+◌, arith, drop, sym, ap, ◌∙◌}
 use Rattle.mentat_cmd.specs.Bodies.{member_formals}
-use Rattle.mentat_cmd.proofs.Lists.{next_left, none_left}
 use Rattle.mentat_cmd.proofs.lookup.member_formals.Goals as goal
+use Rattle.mpl_walk.proofs.Lists.{next_left, none_left}
 
 pub returns-in-Some : goal.returns-in-Some
 returns-in-Some c =

@@ -2,7 +2,8 @@ use Rattle.std.proofs.Common.{◌≡◌, rules, sym, ap, ◌∙◌, ⊎_elim}
 use Rattle.mpl_ast.specs.declared.expression.Term.{the_lemmas}
 use Rattle.mpl_ast.specs.declared.expression.TermOperator.TheVariants.{Times}
 use Rattle.mpl_mean.specs.ExpressionMeaning.{Evaluates, term_operation}
-use Rattle.mpl_walk.specs.Evaluated.{evaluated, on_line, term_value, unary_value}
+use Rattle.mpl_mean.specs.ExpressionLevels.{term_value, unary_value}
+use Rattle.mpl_walk.specs.Evaluated.{evaluated, on_line}
 use Rattle.mpl_mean.specs.FirstForm.{is_first_term}
 use Rattle.mpl_walk.specs.Held.{words_held}
 use Rattle.mpl_value.specs.Arithmetic.{product}

@@ -4,7 +4,7 @@ use Rattle.mpl_ast.specs.declared.expression.SumOperator.{SumOperator}
 use Rattle.mpl_mean.specs.ExpressionText.{sum_mark}
 use Rattle.mpl_mean.specs.Reading.{Rest, is_mark}
 use Rattle.mentat_cmd.specs.Ahead.{is_operand, products_behind, sums_behind, sums_ahead}
-use Rattle.mentat_cmd.specs.Parts.{sum_text}
+use Rattle.mpl_mean.specs.ExpressionLevels.{sum_text}
 use Rattle.mentat_cmd.specs.Reader.{rest_of, numbered}
 use Rattle.mentat_cmd.proofs.Lookahead.{sum-ahead, products_ahead-le, first-some, sign-minus}
 use Rattle.mentat_cmd.proofs.ExpressionTexts.{reads-one_term, reads-add}

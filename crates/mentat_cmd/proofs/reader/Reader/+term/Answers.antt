@@ -4,7 +4,7 @@ use Rattle.mpl_ast.specs.declared.expression.TermOperator.TheVariants.{Times}
 use Rattle.mpl_ast.specs.declared.token.Mark.TheVariants.{Star}
 use Rattle.mpl_mean.specs.Reading.{Rest}
 use Rattle.mentat_cmd.specs.Ahead.{products_behind, products_ahead, sums_behind, sums_ahead}
-use Rattle.mentat_cmd.specs.Parts.{term_text}
+use Rattle.mpl_mean.specs.ExpressionLevels.{term_text}
 use Rattle.mentat_cmd.specs.Reader.{rest_of}
 use Rattle.mentat_cmd.proofs.ExpressionTexts.{reads-multiply}
 use Rattle.mentat_cmd.proofs.Parsed.{reads-mark_on}

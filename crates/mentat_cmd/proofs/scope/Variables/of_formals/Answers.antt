@@ -1,8 +1,8 @@
 use Rattle.std.proofs.Common.{◌+◌, List, ℕ, drop, arith, sym, ap, ◌∙◌}
 use Rattle.mentat_cmd.specs.Scope.{ANumber, Scope, bound, with_variable}
 use Rattle.mentat_cmd.specs.Variables.{seen}
-use Rattle.mentat_cmd.proofs.Lists.{next_left, none_left}
 use Rattle.mentat_cmd.proofs.scope.Variables.of_formals.Goals as goal
+use Rattle.mpl_walk.proofs.Lists.{next_left, none_left}
 
 pub loop-formal-init : goal.loop-formal-init
 loop-formal-init c = ap (λ (scope : Scope). bound scope c.args.formals.now) c.new-variables.ensures
