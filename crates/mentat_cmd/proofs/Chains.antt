@@ -40,7 +40,7 @@ use Rattle.mentat_cmd.specs.declared.expression.Role.{Role}
 use Rattle.mentat_cmd.specs.declared.expression.Role.TheVariants.{Printed, Passed, Returned}
 use Rattle.mentat_cmd.proofs.Steps.{parts_read, token_taken, mark_taken, both_read}
 use Rattle.mentat_cmd.proofs.Operands.{leads-expression, leads-stops}
-use Rattle.mpl_mean.proofs.Truth.{both_true, and_true_right, or_left, or_right}
+use Rattle.mpl_mean.proofs.Truth.{both_true, and_true_right, or_left, or_right, and_false}
 
 -- the tokens are an operand, and so many times an operator and an operand, and then those that are left
 pub record Chain (n : ℕ) (tokens left : List Token) : Type 0 where
@@ -258,10 +258,6 @@ Unary-fit t = Fit (is_first_unary t) (unary_text t) (unary_weighs t)
 abbrev Fit-Unary : Type 0
 Fit-Unary = (t : Unary) × Unary-fit t
 
-and-false : (a b : Bool) → ((a && false) && b) ≡ true → ⊥
-and-false true b h = cc
-and-false false b h = cc
-
 conjunction_layer : (y : Conjunction-F Fit-Conjunction Fit-Equality Fit-Expression Fit-Place Fit-Primary Fit-Relation Fit-Sum Fit-Term Fit-Unary) → Conjunction-fit (roll-Conjunction (map-Conjunction Fit-Conjunction Fit-Equality Fit-Expression Fit-Place Fit-Primary Fit-Relation Fit-Sum Fit-Term Fit-Unary Conjunction Equality Expression Place Primary Relation Sum Term Unary (λ e. e.0) (λ e. e.0) (λ e. e.0) (λ e. e.0) (λ e. e.0) (λ e. e.0) (λ e. e.0) (λ e. e.0) (λ e. e.0) y))
 conjunction_layer (Conjunction-F.OneEquality at e) = Fit-along _ _ _ _ _ _ (fold-roll-Conjunction Bool Bool Bool Bool Bool Bool Bool Bool Bool form.conjunction_step form.equality_step form.expression_step form.place_step form.primary_step form.relation_step form.sum_step form.term_step form.unary_step (Conjunction-F.OneEquality at e.0)) (fold-roll-Conjunction Reads Reads Reads Reads Reads Reads Reads Reads Reads text.conjunction_step text.equality_step text.expression_step text.place_step text.primary_step text.relation_step text.sum_step text.term_step text.unary_step (Conjunction-F.OneEquality at e.0)) (fold-roll-Conjunction Weighs Weighs Weighs Weighs Weighs Weighs Weighs Weighs Weighs weight.conjunction_step weight.equality_step weight.expression_step weight.place_step weight.primary_step weight.relation_step weight.sum_step weight.term_step weight.unary_step (Conjunction-F.OneEquality at e.0)) (λ h. Fits-node at _ _ (e.1 h))
 conjunction_layer (Conjunction-F.And at line e f) = Fit-along _ _ _ _ _ _ (fold-roll-Conjunction Bool Bool Bool Bool Bool Bool Bool Bool Bool form.conjunction_step form.equality_step form.expression_step form.place_step form.primary_step form.relation_step form.sum_step form.term_step form.unary_step (Conjunction-F.And at line e.0 f.0)) (fold-roll-Conjunction Reads Reads Reads Reads Reads Reads Reads Reads Reads text.conjunction_step text.equality_step text.expression_step text.place_step text.primary_step text.relation_step text.sum_step text.term_step text.unary_step (Conjunction-F.And at line e.0 f.0)) (fold-roll-Conjunction Weighs Weighs Weighs Weighs Weighs Weighs Weighs Weighs Weighs weight.conjunction_step weight.equality_step weight.expression_step weight.place_step weight.primary_step weight.relation_step weight.sum_step weight.term_step weight.unary_step (Conjunction-F.And at line e.0 f.0)) (Fit-false _ _)
@@ -299,8 +295,8 @@ sum_layer (Sum-F.Add at line e o f) = Fit-along _ _ _ _ _ _ (fold-roll-Sum Bool 
 term_layer : (y : Term-F Fit-Conjunction Fit-Equality Fit-Expression Fit-Place Fit-Primary Fit-Relation Fit-Sum Fit-Term Fit-Unary) → Term-fit (roll-Term (map-Term Fit-Conjunction Fit-Equality Fit-Expression Fit-Place Fit-Primary Fit-Relation Fit-Sum Fit-Term Fit-Unary Conjunction Equality Expression Place Primary Relation Sum Term Unary (λ e. e.0) (λ e. e.0) (λ e. e.0) (λ e. e.0) (λ e. e.0) (λ e. e.0) (λ e. e.0) (λ e. e.0) (λ e. e.0) y))
 term_layer (Term-F.OneUnary at e) = Fit-along _ _ _ _ _ _ (fold-roll-Term Bool Bool Bool Bool Bool Bool Bool Bool Bool form.conjunction_step form.equality_step form.expression_step form.place_step form.primary_step form.relation_step form.sum_step form.term_step form.unary_step (Term-F.OneUnary at e.0)) (fold-roll-Term Reads Reads Reads Reads Reads Reads Reads Reads Reads text.conjunction_step text.equality_step text.expression_step text.place_step text.primary_step text.relation_step text.sum_step text.term_step text.unary_step (Term-F.OneUnary at e.0)) (fold-roll-Term Weighs Weighs Weighs Weighs Weighs Weighs Weighs Weighs Weighs weight.conjunction_step weight.equality_step weight.expression_step weight.place_step weight.primary_step weight.relation_step weight.sum_step weight.term_step weight.unary_step (Term-F.OneUnary at e.0)) (λ h. Fits-node at _ _ (e.1 h))
 term_layer (Term-F.Multiply at line e term.Times f) = Fit-along _ _ _ _ _ _ (fold-roll-Term Bool Bool Bool Bool Bool Bool Bool Bool Bool form.conjunction_step form.equality_step form.expression_step form.place_step form.primary_step form.relation_step form.sum_step form.term_step form.unary_step (Term-F.Multiply at line e.0 term.Times f.0)) (fold-roll-Term Reads Reads Reads Reads Reads Reads Reads Reads Reads text.conjunction_step text.equality_step text.expression_step text.place_step text.primary_step text.relation_step text.sum_step text.term_step text.unary_step (Term-F.Multiply at line e.0 term.Times f.0)) (fold-roll-Term Weighs Weighs Weighs Weighs Weighs Weighs Weighs Weighs Weighs weight.conjunction_step weight.equality_step weight.expression_step weight.place_step weight.primary_step weight.relation_step weight.sum_step weight.term_step weight.unary_step (Term-F.Multiply at line e.0 term.Times f.0)) (λ h. let p = both_true _ _ h in Fits-binary at line m.Star _ _ _ _ is_operator-times (e.1 (both_true _ _ p.0).0) (f.1 p.1))
-term_layer (Term-F.Multiply at line e term.Over f) = Fit-along _ _ _ _ _ _ (fold-roll-Term Bool Bool Bool Bool Bool Bool Bool Bool Bool form.conjunction_step form.equality_step form.expression_step form.place_step form.primary_step form.relation_step form.sum_step form.term_step form.unary_step (Term-F.Multiply at line e.0 term.Over f.0)) (fold-roll-Term Reads Reads Reads Reads Reads Reads Reads Reads Reads text.conjunction_step text.equality_step text.expression_step text.place_step text.primary_step text.relation_step text.sum_step text.term_step text.unary_step (Term-F.Multiply at line e.0 term.Over f.0)) (fold-roll-Term Weighs Weighs Weighs Weighs Weighs Weighs Weighs Weighs Weighs weight.conjunction_step weight.equality_step weight.expression_step weight.place_step weight.primary_step weight.relation_step weight.sum_step weight.term_step weight.unary_step (Term-F.Multiply at line e.0 term.Over f.0)) (λ h. absurd (and-false _ _ h))
-term_layer (Term-F.Multiply at line e term.Modulo f) = Fit-along _ _ _ _ _ _ (fold-roll-Term Bool Bool Bool Bool Bool Bool Bool Bool Bool form.conjunction_step form.equality_step form.expression_step form.place_step form.primary_step form.relation_step form.sum_step form.term_step form.unary_step (Term-F.Multiply at line e.0 term.Modulo f.0)) (fold-roll-Term Reads Reads Reads Reads Reads Reads Reads Reads Reads text.conjunction_step text.equality_step text.expression_step text.place_step text.primary_step text.relation_step text.sum_step text.term_step text.unary_step (Term-F.Multiply at line e.0 term.Modulo f.0)) (fold-roll-Term Weighs Weighs Weighs Weighs Weighs Weighs Weighs Weighs Weighs weight.conjunction_step weight.equality_step weight.expression_step weight.place_step weight.primary_step weight.relation_step weight.sum_step weight.term_step weight.unary_step (Term-F.Multiply at line e.0 term.Modulo f.0)) (λ h. absurd (and-false _ _ h))
+term_layer (Term-F.Multiply at line e term.Over f) = Fit-along _ _ _ _ _ _ (fold-roll-Term Bool Bool Bool Bool Bool Bool Bool Bool Bool form.conjunction_step form.equality_step form.expression_step form.place_step form.primary_step form.relation_step form.sum_step form.term_step form.unary_step (Term-F.Multiply at line e.0 term.Over f.0)) (fold-roll-Term Reads Reads Reads Reads Reads Reads Reads Reads Reads text.conjunction_step text.equality_step text.expression_step text.place_step text.primary_step text.relation_step text.sum_step text.term_step text.unary_step (Term-F.Multiply at line e.0 term.Over f.0)) (fold-roll-Term Weighs Weighs Weighs Weighs Weighs Weighs Weighs Weighs Weighs weight.conjunction_step weight.equality_step weight.expression_step weight.place_step weight.primary_step weight.relation_step weight.sum_step weight.term_step weight.unary_step (Term-F.Multiply at line e.0 term.Over f.0)) (λ h. absurd (and_false _ _ h))
+term_layer (Term-F.Multiply at line e term.Modulo f) = Fit-along _ _ _ _ _ _ (fold-roll-Term Bool Bool Bool Bool Bool Bool Bool Bool Bool form.conjunction_step form.equality_step form.expression_step form.place_step form.primary_step form.relation_step form.sum_step form.term_step form.unary_step (Term-F.Multiply at line e.0 term.Modulo f.0)) (fold-roll-Term Reads Reads Reads Reads Reads Reads Reads Reads Reads text.conjunction_step text.equality_step text.expression_step text.place_step text.primary_step text.relation_step text.sum_step text.term_step text.unary_step (Term-F.Multiply at line e.0 term.Modulo f.0)) (fold-roll-Term Weighs Weighs Weighs Weighs Weighs Weighs Weighs Weighs Weighs weight.conjunction_step weight.equality_step weight.expression_step weight.place_step weight.primary_step weight.relation_step weight.sum_step weight.term_step weight.unary_step (Term-F.Multiply at line e.0 term.Modulo f.0)) (λ h. absurd (and_false _ _ h))
 
 unary_layer : (y : Unary-F Fit-Conjunction Fit-Equality Fit-Expression Fit-Place Fit-Primary Fit-Relation Fit-Sum Fit-Term Fit-Unary) → Unary-fit (roll-Unary (map-Unary Fit-Conjunction Fit-Equality Fit-Expression Fit-Place Fit-Primary Fit-Relation Fit-Sum Fit-Term Fit-Unary Conjunction Equality Expression Place Primary Relation Sum Term Unary (λ e. e.0) (λ e. e.0) (λ e. e.0) (λ e. e.0) (λ e. e.0) (λ e. e.0) (λ e. e.0) (λ e. e.0) (λ e. e.0) y))
 unary_layer (Unary-F.OnePrimary at e) = Fit-along _ _ _ _ _ _ (fold-roll-Unary Bool Bool Bool Bool Bool Bool Bool Bool Bool form.conjunction_step form.equality_step form.expression_step form.place_step form.primary_step form.relation_step form.sum_step form.term_step form.unary_step (Unary-F.OnePrimary at e.0)) (fold-roll-Unary Reads Reads Reads Reads Reads Reads Reads Reads Reads text.conjunction_step text.equality_step text.expression_step text.place_step text.primary_step text.relation_step text.sum_step text.term_step text.unary_step (Unary-F.OnePrimary at e.0)) (fold-roll-Unary Weighs Weighs Weighs Weighs Weighs Weighs Weighs Weighs Weighs weight.conjunction_step weight.equality_step weight.expression_step weight.place_step weight.primary_step weight.relation_step weight.sum_step weight.term_step weight.unary_step (Unary-F.OnePrimary at e.0)) (λ h. Fits-node at _ _ (e.1 h))

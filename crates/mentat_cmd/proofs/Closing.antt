@@ -24,7 +24,7 @@ use Rattle.mentat_cmd.proofs.Forms.{first_statement, result_statement, first_flo
 use Rattle.mentat_cmd.proofs.ExpressionTexts.{flow_weighs-expression}
 use Rattle.mentat_cmd.proofs.Layers.{is_first_statement-declare, gives_result-rtf, is_call-call, is_first_call-target}
 use Rattle.mentat_cmd.proofs.Weights.{Closes, AllClose, closes-print, closes-rtf, closes-call, closes-call_flow, closes-declare, closes-block, closes-member, closes-class, closes-main}
-use Rattle.mpl_mean.proofs.Truth.{both_true}
+use Rattle.mpl_mean.proofs.Truth.{both_true, and_false}
 
 pub all_close : {A : Type 0} (p : A → Bool) (f : A → Weighs) → ((x : A) → p x ≡ true → Closes (f x)) → (xs : List A) → list_all p xs ≡ true → AllClose f xs
 all_close p f one [] h = tt
@@ -107,16 +107,12 @@ closes-first_class (declaration.Class at line kind n items) h w =
     closes-class at line kind n items (closes-items items (both_true (is_regular kind) (list_all is_first_item items) h).1) w
 closes-first_class (declaration.Function at t n fs b) h w = absurd cc
 
-with_formals : (a b : Bool) → ((a && false) && b) ≡ true → ⊥
-with_formals true b h = cc
-with_formals false b h = cc
-
 closes-first_main : (d : Declaration) → is_main d ≡ true → Closes (declaration_weighs d)
 closes-first_main (declaration.Struct at line n fields) h w = absurd cc
 closes-first_main (declaration.Class at line kind n items) h w = absurd cc
 closes-first_main (declaration.Function at t n None b) h w =
     closes-main at t n b (closes-block b (closes-statements b.statements (both_true _ (list_all is_first_statement b.statements) h).1)) w
-closes-first_main (declaration.Function at t n (Some fs) b) h w = absurd (with_formals _ _ h)
+closes-first_main (declaration.Function at t n (Some fs) b) h w = absurd (and_false _ _ h)
 
 pub closes-declarations : (ds : List Declaration) → are_first ds ≡ true → AllClose declaration_weighs ds
 closes-declarations [] h = absurd cc

@@ -11,6 +11,7 @@ use Rattle.mentat_cmd.specs.Stages.{Stage, BeforeOperand, BehindOperand, BehindE
 use Rattle.mentat_cmd.specs.declared.expression.Role.{Role}
 use Rattle.mentat_cmd.specs.declared.expression.Role.TheVariants.{Printed, Passed, Returned}
 use Rattle.mentat_cmd.proofs.Led.{leads-refused, leads-not}
+use Rattle.mentat_cmd.proofs.Turns.{if-not}
 
 -- ---- an operand
 
@@ -70,14 +71,9 @@ leads-expression role k (t ∷ []) h = behind-one role (is_operator t.kind) (nat
 leads-expression role k (t ∷ u ∷ ts) h =
     behind-two role (is_operator t.kind) (is_operand u.kind) (nat_lt k (most_operators role)) k t.kind u ts (operators_behind ts) refl (operator-ends_nothing role t.kind) h
 
--- no operator comes next
-operand-stops : (b : Bool) (s t : Stage) (ts : List Token) → b ≡ false → leads (if b then s else t) ts ≡ leads t ts
-operand-stops true s t ts h = absurd cc
-operand-stops false s t ts h = refl
-
 pub leads-stops : (role : Role) (k : ℕ) (ts : List Token) → first_is is_operator ts ≡ false → leads (BehindOperand role k) ts ≡ leads (BehindExpression role) ts
 leads-stops role k [] h = refl
-leads-stops role k (t ∷ ts) h = operand-stops (is_operator t.kind) _ (behind_expression role t.kind) ts h
+leads-stops role k (t ∷ ts) h = if-not (is_operator t.kind) _ (behind_expression role t.kind) ts h
 
 -- ---- too many operators
 

@@ -51,7 +51,7 @@ leads-no_statement (t ∷ ts) h g =
 
 -- ---- a list that isn't empty
 
-if-not : (a : Bool) (s t : Stage) (ts : List Token) → a ≡ false → leads (if a then s else t) ts ≡ leads t ts
+pub if-not : (a : Bool) (s t : Stage) (ts : List Token) → a ≡ false → leads (if a then s else t) ts ≡ leads t ts
 if-not true s t ts h = absurd cc
 if-not false s t ts h = refl
 

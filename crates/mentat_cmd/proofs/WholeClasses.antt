@@ -44,7 +44,7 @@ use Rattle.mentat_cmd.proofs.Parsed.{Begins, reads-begun}
 use Rattle.mentat_cmd.proofs.Steps.{parts_read, token_taken, both_read}
 use Rattle.mentat_cmd.proofs.Weights.{light-rtf, light-block, light-member, light-class, light-main, light-program}
 use Rattle.mentat_cmd.proofs.Whole.{stays, led-all, stops-mark, led-flow, led-block}
-use Rattle.mpl_mean.proofs.Truth.{both_true}
+use Rattle.mpl_mean.proofs.Truth.{both_true, and_false}
 use Rattle.mpl_mean.proofs.BothRead.{if_read}
 
 -- ---- formals
@@ -209,14 +209,10 @@ led-main_name n r x b h =
     led-token BeforeMain BeforeOpen p.0 r x p.1
     (if-first (is_name (codes "main") p.0.kind) BeforeOpen Refused (subst (λ t. is_name t p.0.kind ≡ true) main (both_true _ _ p.2).0))
 
-with_formals : (a b : Bool) → ((a && false) && b) ≡ true → ⊥
-with_formals true b h = cc
-with_formals false b h = cc
-
 pub led-main : (d : Declaration) (r x : Rest) → is_main d ≡ true → is_light_declaration d ≡ true → declaration_text d r ≡ Some x → leads BeforeDeclaration r.tokens ≡ leads AtEnd x.tokens
 led-main (declaration.Struct at line n fields) r x h l g = absurd cc
 led-main (declaration.Class at line k n items) r x h l g = absurd cc
-led-main (declaration.Function at t f (Some fs) b) r x h l g = absurd (with_formals _ _ h)
+led-main (declaration.Function at t f (Some fs) b) r x h l g = absurd (and_false _ _ h)
 led-main (declaration.Function at t f None b) r x h l g =
     let bs = both_true _ (list_all is_first_statement b.statements) h in
     let cs = both_true _ _ bs.0 in

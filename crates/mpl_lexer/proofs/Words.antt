@@ -2,7 +2,7 @@
 use Rattle.std.proofs.Common.{◌≡◌, ℕ, suc, ◌+◌, ◌<◌, ◌≤◌, List, [], ◌∷◌, length, take, drop, Some, None, Option, Bool, true, false, cond, eqb, ltb, nat_eq, ◌&&◌, ◌||◌, not, take_while, find, IfSome, IfOk, Result, Ok, Err, get_or, refl, ap, ◌∙◌, subst, arith, rules}
 use Rattle.std.specs.Prelude.{◌^◌, pos}
 use Rattle.std.specs.List.{starts_with, list_all, prefix_len}
-use Rattle.std.proofs.lemmas.Bool.{cond_both, cond-true, cond-false, false≢true}
+use Rattle.std.proofs.lemmas.Bool.{cond_both, cond-true, cond-false}
 use Rattle.std.proofs.lemmas.Bool.Decides.{nat_tests}
 use Rattle.std.proofs.lemmas.List.{length-take, length-drop}
 use Rattle.std.proofs.lemmas.List.Sums.{take_while-cons}
@@ -15,15 +15,12 @@ use Rattle.mpl_mean.specs.Lexemes.{Lexeme, Gap, Word, Fault, is_line_feed, is_bl
 use Rattle.mpl_lexer.specs.declared.lexer.LexFault.{LexFault}
 use Rattle.mpl_lexer.specs.declared.lexeme.Lexeme.{Lexeme as Found}
 use Rattle.mpl_lexer.specs.Lexing.{lexeme_of, IsLexeme, IsFound}
+use Rattle.mpl_mean.proofs.Truth.{both_true}
 
 abbrev pub IsWithin : ℕ → Lexeme → Type 0
 IsWithin len (Gap n) = (0 < n) × (n ≤ len)
 IsWithin len (Word n kind) = (0 < n) × (n ≤ len)
 IsWithin len (Fault fault) = Unit {0}
-
-and_both : (a b : Bool) → (a && b) ≡ true → (a ≡ true) × (b ≡ true)
-and_both true b e = (refl, e)
-and_both false b e = absurd (false≢true e)
 
 pub starts_with_fits : (bytes text : List ℕ) → starts_with nat_eq bytes text ≡ true → length text ≤ length bytes
 starts_with_fits bytes text e =
@@ -40,7 +37,7 @@ take_while_within p b bytes e =
 pub find_passes : {X : Type 0} (p q : X → Bool) (xs : List X) → list_all q xs ≡ true → IfSome (find p xs) (λ x. (p x ≡ true) × (q x ≡ true))
 find_passes p q [] all = tt
 find_passes {X} p q (x ∷ xs) all =
-    let both = and_both (q x) (list_all q xs) all in
+    let both = both_true (q x) (list_all q xs) all in
     let P : Option X → Type 0 = λ o. IfSome o (λ x. (p x ≡ true) × (q x ≡ true)) in
     cond_both (p x) (Some x) (find p xs) P (λ e. (e, both.0)) (λ e. find_passes p q xs both.1)
 
@@ -78,7 +75,7 @@ block_within (star ∷ rest) = comment_within (length rest) (comment_rest rest) 
 
 not_feed : (b : ℕ) (bytes : List ℕ) → starts_with nat_eq (b ∷ bytes) (47 ∷ 47 ∷ []) ≡ true → not (is_line_feed b) ≡ true
 not_feed b bytes e =
-    let slash = (and_both (eqb 47 b) _ e).0 in
+    let slash = (both_true (eqb 47 b) _ e).0 in
     grind (arith, nat_tests)
 
 letter_continues : (b : ℕ) → is_letter b ≡ true → continues_name b ≡ true

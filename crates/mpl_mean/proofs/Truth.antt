@@ -17,6 +17,10 @@ pub and_true_right : (a : Bool) → (a && true) ≡ a
 and_true_right true = refl
 and_true_right false = refl
 
+pub and_false : (a b : Bool) → ((a && false) && b) ≡ true → ⊥
+and_false true b h = cc
+and_false false b h = cc
+
 pub or_left : (a b : Bool) → a ≡ true → (a || b) ≡ true
 or_left true b e = refl
 or_left false b e = absurd cc
