@@ -1,6 +1,6 @@
 -- What stands in a program of the first form, as cases: whatever holds of each form that may stand somewhere holds of
 -- all that does.
-use Rattle.std.proofs.Common.{◌≡◌, Bool, true, false, List, sym, subst}
+use Rattle.std.proofs.Common.{◌≡◌, Bool, true, List, sym, subst}
 use Rattle.mpl_ast.specs.declared.expression.Expression.{Expression}
 use Rattle.mpl_ast.specs.declared.expression.Target.{Target}
 use Rattle.mpl_ast.specs.declared.flow.Call.{Call, ind-Call, roll-Call, fold-roll-Call}

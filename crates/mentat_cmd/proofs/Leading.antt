@@ -1,8 +1,5 @@
 -- Where one token leads.
 use Rattle.std.proofs.Common.{◌≡◌, ℕ, ◌+◌, true, ◌&&◌, ◌==◌, List, ◌∷◌, Some, refl, ap, sym, ◌∙◌}
-use denote.Enum.Bare.{same_true}
-use Rattle.mpl_ast.specs.contracts.token.Keyword as keywords
-use Rattle.mpl_ast.specs.contracts.token.Mark as marks
 use Rattle.mpl_ast.specs.declared.place.Name.{Name}
 use Rattle.mpl_ast.specs.declared.statement.TypeName.{TypeName}
 use Rattle.mpl_ast.specs.declared.statement.TypeName.TheVariants as type

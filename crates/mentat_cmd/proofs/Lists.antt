@@ -2,7 +2,6 @@
 use Rattle.std.proofs.Common.{◌≡◌, ℕ, suc, ◌+◌, ◌<◌, ◌≤◌, Bool, true, false, ◌&&◌, ◌||◌, List, [], ◌∷◌, length, drop, map, refl, get_or, ap, sym, arith, ◌∙◌}
 use Rattle.std.specs.List.{list_all, list_any}
 use Rattle.std.specs.Prelude.{filter, if◌then◌else◌}
-use Rattle.std.proofs.lemmas.List.{at_drop_more, at_drop_all}
 use Rattle.mpl_walk.proofs.Lists.{next_left, none_left}
 
 -- ---- tests of all items

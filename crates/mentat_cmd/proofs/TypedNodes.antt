@@ -11,8 +11,8 @@ use Rattle.mpl_mean.specs.Phrases.{Phrase}
 use Rattle.mpl_mean.specs.Phrases as phrase
 use Rattle.mpl_mean.specs.Rules.{Failure, Rule, rule, first_rules, failures_at, failures_among, is_empty}
 use Rattle.mpl_mean.specs.Scopes.{Here, variable_of}
-use Rattle.mpl_mean.specs.Types.{Declared, OneValue, ARegular, OfInt, Shape, ValueType, shape_of}
-use Rattle.mpl_mean.specs.Typing.{type_of, type_of_whole, type_of_binary, variable_shape}
+use Rattle.mpl_mean.specs.Types.{Declared, OneValue, ARegular, OfInt, Shape, shape_of}
+use Rattle.mpl_mean.specs.Typing.{type_of, type_of_whole, variable_shape}
 use Rattle.mpl_mean.proofs.FirstExpressions.{IsFirst}
 use Rattle.mpl_mean.proofs.FirstNodes.{listed}
 use Rattle.mpl_mean.proofs.FirstTypes.{AreFirstItems, IsFirstType, binary_first}
