@@ -24,16 +24,16 @@ use Rattle.mpl_ast.specs.declared.token.Mark.TheVariants as m
 use Rattle.mpl_ast.specs.declared.token.Token.{Token}
 use Rattle.mpl_ast.specs.declared.token.TokenKind.{TokenKind}
 use Rattle.mpl_ast.specs.declared.token.TokenKind.TheVariants as kind
-use Rattle.mpl_mean.specs.FirstForm as form
-use Rattle.mpl_mean.specs.FirstForm.{is_first_expression, is_first_conjunction, is_first_equality, is_first_relation, is_first_sum, is_first_term, is_first_unary, is_first_primary, is_first_place, is_variable}
-use Rattle.mpl_mean.specs.ExpressionText as text
-use Rattle.mpl_mean.specs.ExpressionText.{expression_text, place_text}
-use Rattle.mpl_mean.specs.Reading.{Reads, Rest, node, name, token, mark_on, is_mark, is_name, is_number, ◌>>◌}
-use Rattle.mpl_mean.specs.Weight as weight
-use Rattle.mpl_mean.specs.Weight.{Weighs, plain, binary, place_weighs}
+use Rattle.mpl_mean.specs.FirstForms.FirstForm as form
+use Rattle.mpl_mean.specs.FirstForms.FirstForm.{is_first_expression, is_first_conjunction, is_first_equality, is_first_relation, is_first_sum, is_first_term, is_first_unary, is_first_primary, is_first_place, is_variable}
+use Rattle.mpl_mean.specs.Text.ExpressionText as text
+use Rattle.mpl_mean.specs.Text.ExpressionText.{expression_text, place_text}
+use Rattle.mpl_mean.specs.Text.Reading.{Reads, Rest, node, name, token, mark_on, is_mark, is_name, is_number, ◌>>◌}
+use Rattle.mpl_mean.specs.Text.Weight as weight
+use Rattle.mpl_mean.specs.Text.Weight.{Weighs, plain, binary, place_weighs}
 use Rattle.std.specs.Prelude.{ℤ}
 use Rattle.mentat_cmd.specs.Ahead.{first_is, is_operand, is_operator, operators_ahead, operators_behind}
-use Rattle.mpl_mean.specs.ExpressionLevels.{primary_text, unary_text, term_text, sum_text}
+use Rattle.mpl_mean.specs.FirstForms.ExpressionLevels.{primary_text, unary_text, term_text, sum_text}
 use Rattle.mentat_cmd.specs.Parts.{all_light, is_light_expression}
 use Rattle.mentat_cmd.specs.Stages.{Stage, BeforeOperand, BehindOperand, BehindExpression, Refused, leads, brackets, most_operators, behind_expression}
 use Rattle.mentat_cmd.specs.declared.expression.Role.{Role}

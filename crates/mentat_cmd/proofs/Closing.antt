@@ -18,8 +18,8 @@ use Rattle.mpl_ast.specs.declared.statement.Local.{Local}
 use Rattle.mpl_ast.specs.declared.statement.Statement.{Statement}
 use Rattle.mpl_ast.specs.declared.statement.Statement.TheVariants as statement
 use Rattle.mpl_ast.specs.declared.statement.TypeName.{TypeName}
-use Rattle.mpl_mean.specs.FirstForm.{are_first, gives_result, is_call, is_class, is_first_call, is_first_declarator, is_first_flow, is_first_item, is_first_local, is_first_statement, is_int_result, are_ints, is_main, is_one_result, is_regular, is_variable}
-use Rattle.mpl_mean.specs.Weight.{Weighs, call_weighs, declaration_weighs, declarator_weighs, flow_weighs, item_weighs, local_weighs, statement_weighs}
+use Rattle.mpl_mean.specs.FirstForms.FirstForm.{are_first, gives_result, is_call, is_class, is_first_call, is_first_declarator, is_first_flow, is_first_item, is_first_local, is_first_statement, is_int_result, are_ints, is_main, is_one_result, is_regular, is_variable}
+use Rattle.mpl_mean.specs.Text.Weight.{Weighs, call_weighs, declaration_weighs, declarator_weighs, flow_weighs, item_weighs, local_weighs, statement_weighs}
 use Rattle.mentat_cmd.proofs.Forms.{first_statement, result_statement, first_flow, call_flow, first_call}
 use Rattle.mentat_cmd.proofs.ExpressionTexts.{flow_weighs-expression}
 use Rattle.mentat_cmd.proofs.Layers.{is_first_statement-declare, gives_result-rtf, is_call-call, is_first_call-target}

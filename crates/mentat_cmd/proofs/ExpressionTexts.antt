@@ -21,16 +21,16 @@ use Rattle.mpl_ast.specs.declared.flow.Flow.TheVariants as flow
 use Rattle.mpl_ast.specs.declared.flow.Call.TheOpen.{Flow-F}
 use Rattle.mpl_ast.specs.declared.place.At.{At}
 use Rattle.mpl_ast.specs.declared.token.Mark.{Mark}
-use Rattle.mpl_mean.specs.ExpressionText as text
-use Rattle.mpl_mean.specs.ExpressionText.{expression_text}
-use Rattle.mpl_mean.specs.FirstForm as form
-use Rattle.mpl_mean.specs.FirstForm.{is_first_expression, is_first_conjunction, is_first_equality, is_first_relation, is_first_sum, is_first_flow}
-use Rattle.mpl_mean.specs.Reading.{Reads, Rest, ◌>>◌, node, mark_on}
-use Rattle.mpl_mean.specs.StatementText as statements
-use Rattle.mpl_mean.specs.StatementText.{flow_text}
-use Rattle.mpl_mean.specs.Weight as weight
-use Rattle.mpl_mean.specs.Weight.{Weighs, expression_weighs, flow_weighs}
-use Rattle.mpl_mean.specs.ExpressionLevels.{sum_text, term_text, unary_text}
+use Rattle.mpl_mean.specs.Text.ExpressionText as text
+use Rattle.mpl_mean.specs.Text.ExpressionText.{expression_text}
+use Rattle.mpl_mean.specs.FirstForms.FirstForm as form
+use Rattle.mpl_mean.specs.FirstForms.FirstForm.{is_first_expression, is_first_conjunction, is_first_equality, is_first_relation, is_first_sum, is_first_flow}
+use Rattle.mpl_mean.specs.Text.Reading.{Reads, Rest, ◌>>◌, node, mark_on}
+use Rattle.mpl_mean.specs.Text.StatementText as statements
+use Rattle.mpl_mean.specs.Text.StatementText.{flow_text}
+use Rattle.mpl_mean.specs.Text.Weight as weight
+use Rattle.mpl_mean.specs.Text.Weight.{Weighs, expression_weighs, flow_weighs}
+use Rattle.mpl_mean.specs.FirstForms.ExpressionLevels.{sum_text, term_text, unary_text}
 use Rattle.mentat_cmd.specs.Reader.{at_of}
 use Rattle.mentat_cmd.specs.declared.reader.Start.{Start}
 use Rattle.mentat_cmd.proofs.Parsed.{Begins, reads-begun, reads-both}

@@ -15,9 +15,9 @@ use Rattle.mpl_ast.specs.declared.statement.Local.{Local}
 use Rattle.mpl_ast.specs.declared.statement.Statement.{Statement, ind-Statement, roll-Statement, fold-roll-Statement}
 use Rattle.mpl_ast.specs.declared.statement.Statement.TheOpen.{Statement-F}
 use Rattle.mpl_ast.specs.declared.statement.Statement.TheVariants as statement
-use Rattle.mpl_mean.specs.FirstForm as first
+use Rattle.mpl_mean.specs.FirstForms.FirstForm as first
 use Rattle.mentat_cmd.proofs.Layers.{is_call-expression}
-use Rattle.mpl_mean.specs.FirstForm.{gives_result, is_call, is_first_call, is_first_flow, is_first_statement}
+use Rattle.mpl_mean.specs.FirstForms.FirstForm.{gives_result, is_call, is_first_call, is_first_flow, is_first_statement}
 use Rattle.mpl_mean.proofs.Truth.{never}
 
 -- ---- statements

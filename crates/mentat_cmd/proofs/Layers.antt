@@ -14,11 +14,11 @@ use Rattle.mpl_ast.specs.declared.statement.Statement.{Statement}
 use Rattle.mpl_ast.specs.declared.statement.Statement as statement
 use Rattle.mpl_ast.specs.declared.token.Keyword.TheVariants as word
 use Rattle.mpl_ast.specs.declared.token.Mark.TheVariants as m
-use Rattle.mpl_mean.specs.ExpressionText.{expression_text, target_text}
-use Rattle.mpl_mean.specs.FirstForm.{gives_result, is_call, is_first_call, is_first_expression, is_first_flow, is_first_local, is_first_statement, is_variable}
-use Rattle.mpl_mean.specs.Reading.{◌>>◌, node, name, mark, keyword, separated, separated_if_any}
-use Rattle.mpl_mean.specs.StatementText.{call_text, flow_text, local_text, statement_text}
-use Rattle.mpl_mean.specs.Weight.{◌⨾◌, plain, bracketed, with_commas, call_weighs, expression_weighs, flow_weighs, local_weighs, statement_weighs, target_weighs}
+use Rattle.mpl_mean.specs.Text.ExpressionText.{expression_text, target_text}
+use Rattle.mpl_mean.specs.FirstForms.FirstForm.{gives_result, is_call, is_first_call, is_first_expression, is_first_flow, is_first_local, is_first_statement, is_variable}
+use Rattle.mpl_mean.specs.Text.Reading.{◌>>◌, node, name, mark, keyword, separated, separated_if_any}
+use Rattle.mpl_mean.specs.Text.StatementText.{call_text, flow_text, local_text, statement_text}
+use Rattle.mpl_mean.specs.Text.Weight.{◌⨾◌, plain, bracketed, with_commas, call_weighs, expression_weighs, flow_weighs, local_weighs, statement_weighs, target_weighs}
 
 -- ---- statements
 

@@ -9,14 +9,14 @@ use Rattle.mpl_ast.specs.declared.token.Mark.{Mark}
 use Rattle.mpl_ast.specs.declared.token.Token.{Token}
 use Rattle.mpl_ast.specs.declared.token.TokenKind.{TokenKind}
 use Rattle.mpl_ast.specs.declared.token.TokenKind.TheVariants as kind
-use Rattle.mpl_mean.specs.FirstForm.{is_int, is_named}
-use Rattle.mpl_mean.specs.Reading.{Rest, mark, mark_on, keyword, name, is_mark, is_keyword, is_name}
-use Rattle.mpl_mean.specs.StatementText.{type_text}
+use Rattle.mpl_mean.specs.FirstForms.FirstForm.{is_int, is_named}
+use Rattle.mpl_mean.specs.Text.Reading.{Rest, mark, mark_on, keyword, name, is_mark, is_keyword, is_name}
+use Rattle.mpl_mean.specs.Text.StatementText.{type_text}
 use Rattle.mentat_cmd.specs.Ahead.{first_is}
 use Rattle.mentat_cmd.specs.Stages.{Stage, leads, stage_behind}
 use Rattle.mentat_cmd.proofs.Steps.{parts_read, token_taken, mark_taken}
 use Rattle.mpl_mean.proofs.Truth.{both_true}
-use Rattle.mpl_mean.proofs.BothReadTokens.{mark_is, keyword_is}
+use Rattle.mpl_mean.proofs.OneTree.BothReadTokens.{mark_is, keyword_is}
 
 pub name_is : (text : List ℕ) (k : TokenKind) → is_name text k ≡ true → (other : List ℕ) × (k ≡ kind.Name other)
 name_is text (kind.Name other) h = (other, refl)

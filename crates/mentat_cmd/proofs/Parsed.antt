@@ -5,13 +5,13 @@ use Rattle.mpl_ast.specs.declared.token.Keyword.{Keyword}
 use Rattle.mpl_ast.specs.declared.token.Mark.{Mark}
 use Rattle.mpl_ast.specs.declared.token.Mark.TheVariants as mark_of
 use Rattle.mpl_ast.specs.declared.token.Token.{Token}
-use Rattle.mpl_mean.specs.Reading.{Reads, Rest, ◌>>◌, nothing, node, begins, token, token_from, mark, mark_on, keyword, is_mark, is_keyword, each, separated, after_first}
+use Rattle.mpl_mean.specs.Text.Reading.{Reads, Rest, ◌>>◌, nothing, node, begins, token, token_from, mark, mark_on, keyword, is_mark, is_keyword, each, separated, after_first}
 use Rattle.mentat_cmd.specs.Ahead.{first_is}
 use Rattle.mentat_cmd.specs.Reader.{starts, at_of}
 use Rattle.mentat_cmd.specs.declared.reader.Start.{Start}
 use Rattle.mentat_cmd.proofs.Steps.{both_read}
 use Rattle.mpl_mean.proofs.Truth.{both_true}
-use Rattle.mpl_mean.proofs.BothRead.{if_read}
+use Rattle.mpl_mean.proofs.OneTree.BothRead.{if_read}
 
 -- ---- one token, one after another, and a node around them
 

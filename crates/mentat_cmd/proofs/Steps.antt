@@ -3,9 +3,9 @@ use Rattle.std.proofs.Common.{◌≡◌, ℕ, ◌+◌, Bool, true, List, [], ◌
 use Rattle.mpl_ast.specs.declared.place.At.{At}
 use Rattle.mpl_ast.specs.declared.token.Mark.{Mark}
 use Rattle.mpl_ast.specs.declared.token.Token.{Token}
-use Rattle.mpl_mean.specs.Reading.{Reads, Rest, ◌>>◌, token_from, mark_on, is_mark, node, ended}
+use Rattle.mpl_mean.specs.Text.Reading.{Reads, Rest, ◌>>◌, token_from, mark_on, is_mark, node, ended}
 use Rattle.mpl_mean.proofs.Truth.{both_true}
-use Rattle.mpl_mean.proofs.BothRead.{if_read, then_read}
+use Rattle.mpl_mean.proofs.OneTree.BothRead.{if_read, then_read}
 
 pub both_read : (a b : Reads) (r x : Rest) → (a >> b) r ≡ Some x → (m : Rest) × (a r ≡ Some m) × (b m ≡ Some x)
 both_read a b r x h = then_read (a r) b x h

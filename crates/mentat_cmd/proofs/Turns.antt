@@ -3,7 +3,7 @@ use Rattle.std.proofs.Common.{◌≡◌, Bool, true, false, ◌||◌, List, [], 
 use Rattle.mpl_ast.specs.declared.token.Keyword.TheVariants as word
 use Rattle.mpl_ast.specs.declared.token.Mark.TheVariants as m
 use Rattle.mpl_ast.specs.declared.token.Token.{Token}
-use Rattle.mpl_mean.specs.Reading.{is_mark, is_keyword}
+use Rattle.mpl_mean.specs.Text.Reading.{is_mark, is_keyword}
 use Rattle.mentat_cmd.specs.Ahead.{first_is, is_any_name, is_operand, begins_statement}
 use Rattle.mentat_cmd.specs.Stages.{Stage, BeforeDeclaration, BeforeMentat, BeforeMain, InClass, BeforeMember, BehindClass, InFormals, BeforeFormalType, BeforeFormal, BeforeBody, BehindFormal, InBlock, BehindPrint, BeforeVariable, BeforeResult, AtEnd, BeforeArguments, BeforeOperand, BehindOperand, BehindExpression, BeforeSemicolon, BehindResult, Refused, leads}
 use Rattle.mentat_cmd.specs.declared.expression.Role.{Role}

@@ -15,24 +15,24 @@ use Rattle.mpl_ast.specs.declared.place.Name.{Name}
 use Rattle.mpl_ast.specs.declared.program.Declaration.{Declaration}
 use Rattle.mpl_ast.specs.declared.statement.TypeName.{TypeName}
 use Rattle.mpl_ast.specs.declared.statement.TypeName.TheVariants as type
-use Rattle.mpl_mean.specs.CallRules.{can_be_called, member_call_fits, member_takes}
-use Rattle.mpl_mean.specs.FirstForm.{are_ints, is_first_flow, is_first_item, is_int, is_int_result, is_one_result, is_variable}
-use Rattle.mpl_mean.specs.Layout.{Member, formals_of, member_named, members_from}
-use Rattle.mpl_mean.specs.NameRules.{has_member, name_is_known}
-use Rattle.mpl_mean.specs.Nodes.{nodes_of_each, phrase_nodes}
-use Rattle.mpl_mean.specs.Phrases.{listed, phrase_of_flow}
-use Rattle.mpl_mean.specs.Phrases as phrase
-use Rattle.mpl_mean.specs.Rules.{rule}
-use Rattle.mpl_mean.specs.Scopes.{Here, variable_of}
-use Rattle.mpl_mean.specs.Types.{AsFormal, Declared, OfInt, Shape, ValueType, agree, meant, shape_of, value_type}
-use Rattle.mpl_mean.specs.Typing.{all_agree, arguments_fit, formal_types, items_called, member_of, types_of, variable_shape}
-use Rattle.mpl_mean.proofs.FirstActions.{flow_is_first}
-use Rattle.mpl_mean.proofs.FirstTypes.{AreFirstItems, IsFirstType}
+use Rattle.mpl_mean.specs.TypeRules.CallRules.{can_be_called, member_call_agrees, member_takes}
+use Rattle.mpl_mean.specs.FirstForms.FirstForm.{are_ints, is_first_flow, is_first_item, is_int, is_int_result, is_one_result, is_variable}
+use Rattle.mpl_mean.specs.Meaning.Layout.{Member, formals_of, member_named, members_from}
+use Rattle.mpl_mean.specs.TypeRules.NameRules.{has_member, name_is_known}
+use Rattle.mpl_mean.specs.TypeRules.Nodes.{nodes_of_each, expr_nodes}
+use Rattle.mpl_mean.specs.TypeRules.Expr.{listed, expr_of_flow}
+use Rattle.mpl_mean.specs.TypeRules.Expr as expr
+use Rattle.mpl_mean.specs.TypeRules.Rules.{rule}
+use Rattle.mpl_mean.specs.TypeRules.Scopes.{Environment, variable_of}
+use Rattle.mpl_mean.specs.TypeRules.Types.{AsFormal, Declared, OfInt, Shape, ValueType, agree, meant, shape_of, value_type}
+use Rattle.mpl_mean.specs.TypeRules.Typing.{all_agree, arguments_agree, formal_types, items_called, member_of, types_of, variable_shape}
+use Rattle.mpl_mean.proofs.SevenRules.FirstStmts.{flow_is_first}
+use Rattle.mpl_mean.proofs.SevenRules.FirstTypes.{AreFirstItems, IsFirstType}
 use Rattle.mentat_cmd.specs.Bodies.{can_call, flow_fits, member_formals, takes, target_can_call}
 use Rattle.mentat_cmd.specs.Scope.{Kind, ANumber, AnObject, Scope}
-use Rattle.mentat_cmd.proofs.TypedNodes.{Agrees, Describes, by_one, held, held_append, phrase_held, phrase_type}
+use Rattle.mentat_cmd.proofs.TypedNodes.{Agrees, Describes, by_one, held, held_append, expr_held, expr_type}
 use Rattle.mpl_mean.proofs.Truth.{both_true, and_true_right}
-use Rattle.mpl_mean.proofs.FirstBodies.{given_agrees}
+use Rattle.mpl_mean.proofs.SevenRules.FirstBodies.{given_agrees}
 
 -- ---- the types of arguments agree with those of formals
 
@@ -64,7 +64,7 @@ types_length ds [] = refl
 types_length ds (f ∷ fs) = ap suc (types_length ds fs)
 
 counted : (ts : List (Option ValueType)) → AllFirst ts → (ds : List Declaration) (fs : List Formal) → are_int_formals fs ≡ true
-    → arguments_fit ts (formal_types ds fs) ≡ (length ts == length fs)
+    → arguments_agree ts (formal_types ds fs) ≡ (length ts == length fs)
 counted ts h ds fs g =
     ap₂ (λ n b. (length ts == n) && (list_any is_none ts || b)) (types_length ds fs) (all_agree_int ts h ds fs g)
     ∙ ap (λ b. (length ts == length fs) && b) (or_true (list_any is_none ts)) ∙ and_true_right (length ts == length fs)
@@ -140,38 +140,38 @@ receiver_held ds d k h member ts g e = absurd h
 abbrev are_flows : List Flow → Bool
 are_flows fs = list_all (λ b. b) (map is_first_flow fs)
 
-each_held : (here : Here) (scope : Scope) → Agrees here scope → (fs : List Flow) → are_flows fs ≡ true
-    → held (nodes_of_each here (listed (map phrase_of_flow fs))) ≡ list_all (flow_fits scope) fs
-each_held here scope agrees [] h = refl
-each_held here scope agrees (f ∷ fs) h =
+each_held : (environment : Environment) (scope : Scope) → Agrees environment scope → (fs : List Flow) → are_flows fs ≡ true
+    → held (nodes_of_each environment (listed (map expr_of_flow fs))) ≡ list_all (flow_fits scope) fs
+each_held environment scope agrees [] h = refl
+each_held environment scope agrees (f ∷ fs) h =
     let b = both_true (is_first_flow f) (are_flows fs) h in
-    held_append (phrase_nodes here (phrase_of_flow f)) (nodes_of_each here (listed (map phrase_of_flow fs)))
-    ∙ ap₂ (λ a c. a && c) (phrase_held here scope agrees (phrase_of_flow f) (flow_is_first f b.0)) (each_held here scope agrees fs b.1)
+    held_append (expr_nodes environment (expr_of_flow f)) (nodes_of_each environment (listed (map expr_of_flow fs)))
+    ∙ ap₂ (λ a c. a && c) (expr_held environment scope agrees (expr_of_flow f) (flow_is_first f b.0)) (each_held environment scope agrees fs b.1)
 
-each_type : (here : Here) (scope : Scope) → Agrees here scope → (fs : List Flow) → are_flows fs ≡ true → AllFirst (types_of here (listed (map phrase_of_flow fs)))
-each_type here scope agrees [] h = tt
-each_type here scope agrees (f ∷ fs) h =
+each_type : (environment : Environment) (scope : Scope) → Agrees environment scope → (fs : List Flow) → are_flows fs ≡ true → AllFirst (types_of environment (listed (map expr_of_flow fs)))
+each_type environment scope agrees [] h = tt
+each_type environment scope agrees (f ∷ fs) h =
     let b = both_true (is_first_flow f) (are_flows fs) h in
-    (phrase_type here scope agrees (phrase_of_flow f) (flow_is_first f b.0), each_type here scope agrees fs b.1)
+    (expr_type environment scope agrees (expr_of_flow f) (flow_is_first f b.0), each_type environment scope agrees fs b.1)
 
-each_length : (here : Here) (fs : List Flow) → length (types_of here (listed (map phrase_of_flow fs))) ≡ length fs
-each_length here [] = refl
-each_length here (f ∷ fs) = ap suc (each_length here fs)
+each_length : (environment : Environment) (fs : List Flow) → length (types_of environment (listed (map expr_of_flow fs))) ≡ length fs
+each_length environment [] = refl
+each_length environment (f ∷ fs) = ap suc (each_length environment fs)
 
 -- ---- calls
 
-pub call_held : (here : Here) (scope : Scope) → Agrees here scope → (at : ℕ) (t : Target) (member : Name) (fs : List Flow)
+pub call_held : (environment : Environment) (scope : Scope) → Agrees environment scope → (at : ℕ) (t : Target) (member : Name) (fs : List Flow)
     → is_variable t ≡ true → list_all (λ b. b) (map is_first_flow fs) ≡ true
-    → held (phrase_nodes here (phrase.CallOnTarget at t member (listed (map phrase_of_flow fs))))
+    → held (expr_nodes environment (expr.CallOnTarget at t member (listed (map expr_of_flow fs))))
     ≡ (target_can_call scope t member.text (length fs) && list_all (flow_fits scope) fs)
-call_held here scope agrees at (target.Variable place v) member fs h g =
-    let ds = here.declarations in
-    let shape = variable_shape here v.text in
-    let ts = types_of here (listed (map phrase_of_flow fs)) in
+call_held environment scope agrees at (target.Variable place v) member fs h g =
+    let ds = environment.declarations in
+    let shape = variable_shape environment v.text in
+    let ts = types_of environment (listed (map expr_of_flow fs)) in
     ap₂ (λ a b. a && b)
-    (by_one at (rule 19 member_call_fits) (can_be_called shape && member_takes ds (option_and_then (member_of member.text) (items_called ds shape)) ts))
+    (by_one at (rule 19 member_call_agrees) (can_be_called shape && member_takes ds (option_and_then (member_of member.text) (items_called ds shape)) ts))
     (ap₂ (λ a b. a && b) (by_one member.from (rule 1 name_is_known) (has_member member.text (items_called ds shape)))
-    (ap₂ (λ a b. a && b) (by_one v.from (rule 1 name_is_known) (is_some (variable_of here v.text))) (each_held here scope agrees fs g)))
-    ∙ receiver_held ds (variable_of here v.text) (scope v.text) (agrees v.text) member.text ts (each_type here scope agrees fs g) (list_all (flow_fits scope) fs)
-    ∙ ap (λ n. can_call (scope v.text) member.text n && list_all (flow_fits scope) fs) (each_length here fs)
-call_held here scope agrees at (target.Field place v f) member fs h g = absurd cc
+    (ap₂ (λ a b. a && b) (by_one v.from (rule 1 name_is_known) (is_some (variable_of environment v.text))) (each_held environment scope agrees fs g)))
+    ∙ receiver_held ds (variable_of environment v.text) (scope v.text) (agrees v.text) member.text ts (each_type environment scope agrees fs g) (list_all (flow_fits scope) fs)
+    ∙ ap (λ n. can_call (scope v.text) member.text n && list_all (flow_fits scope) fs) (each_length environment fs)
+call_held environment scope agrees at (target.Field place v f) member fs h g = absurd cc

@@ -14,25 +14,25 @@ use Rattle.mpl_ast.specs.declared.statement.Statement.{Statement, fold_out-State
 use Rattle.mpl_ast.specs.declared.statement.Statement.TheOpen.{Statement-F}
 use Rattle.mpl_ast.specs.declared.statement.TypeName.{TypeName}
 use Rattle.mpl_ast.specs.declared.statement.TypeName.TheVariants as type
-use Rattle.mpl_mean.specs.Actions.{Action, Actions, action_of, in_turn}
-use Rattle.mpl_mean.specs.Actions as action
-use Rattle.mpl_mean.specs.FirstForm.{gives_result, is_int, is_one_result}
-use Rattle.mpl_mean.specs.FirstForm as first
-use Rattle.mpl_mean.specs.Layout.{dimension_of, state_of}
-use Rattle.mpl_mean.specs.Nodes.{Placed}
-use Rattle.mpl_mean.specs.Phrases.{phrase_of_flow}
-use Rattle.mpl_mean.specs.ProgramNodes.{routine_nodes}
-use Rattle.mpl_mean.specs.Rules.{rule}
-use Rattle.mpl_mean.specs.Scopes.{Here, InMember, Surrounding, at_top, in_body, in_class}
-use Rattle.mpl_mean.specs.SizeRules.{most_formals, most_words_of_variables, variables_fit}
-use Rattle.mpl_mean.specs.StatementNodes.{action_walk, actions_walk, locals_among}
-use Rattle.mpl_mean.specs.Types.{AsFormal, Declared, InState, OfInt, OneValue, declared_fields, declared_formals, first_named, meant, shape_of_meant, words_of_meant, words_of_variables}
-use Rattle.mpl_mean.proofs.FirstActions.{flow_is_first}
-use Rattle.mpl_mean.proofs.FirstTypes.{AreFirstItems, no_state}
+use Rattle.mpl_mean.specs.TypeRules.Stmt.{Stmt, Stmts, stmt_of, in_turn}
+use Rattle.mpl_mean.specs.TypeRules.Stmt as stmt
+use Rattle.mpl_mean.specs.FirstForms.FirstForm.{gives_result, is_int, is_one_result}
+use Rattle.mpl_mean.specs.FirstForms.FirstForm as first
+use Rattle.mpl_mean.specs.Meaning.Layout.{dimension_of, state_of}
+use Rattle.mpl_mean.specs.TypeRules.Nodes.{Located}
+use Rattle.mpl_mean.specs.TypeRules.Expr.{expr_of_flow}
+use Rattle.mpl_mean.specs.TypeRules.ProgramNodes.{routine_nodes}
+use Rattle.mpl_mean.specs.TypeRules.Rules.{rule}
+use Rattle.mpl_mean.specs.TypeRules.Scopes.{Environment, InMember, Surrounding, at_top, in_body, in_class}
+use Rattle.mpl_mean.specs.TypeRules.SizeRules.{most_formals, most_words_of_variables, variables_fit}
+use Rattle.mpl_mean.specs.TypeRules.StatementNodes.{stmt_walk, stmts_walk, locals_among}
+use Rattle.mpl_mean.specs.TypeRules.Types.{AsFormal, Declared, InState, OfInt, OneValue, declared_fields, declared_formals, first_named, meant, shape_of_meant, words_of_meant, words_of_variables}
+use Rattle.mpl_mean.proofs.SevenRules.FirstStmts.{flow_is_first}
+use Rattle.mpl_mean.proofs.SevenRules.FirstTypes.{AreFirstItems, no_state}
 use Rattle.mentat_cmd.specs.Bodies.{result_fits}
 use Rattle.mentat_cmd.specs.Scope.{ANumber, Scope, bound, no_variable}
-use Rattle.mentat_cmd.proofs.TypedNodes.{Agrees, Describes, by_one, held, held_append, phrase_held}
-use Rattle.mentat_cmd.proofs.TypedStatements.{locals_append, phrase_locals}
+use Rattle.mentat_cmd.proofs.TypedNodes.{Agrees, Describes, by_one, held, held_append, expr_held}
+use Rattle.mentat_cmd.proofs.TypedStatements.{locals_append, expr_locals}
 use Rattle.mpl_mean.proofs.Truth.{both_true}
 
 abbrev pub are_int_formals : List Formal → Bool
@@ -90,11 +90,11 @@ formals_words ds (f ∷ fs) h =
 
 -- ---- in a member
 
-abbrev pub member_here : List Declaration → Surrounding → ResultType → List Formal → Here
-member_here ds class result fs = in_body (InMember result) (declared_formals fs) (in_class class (at_top ds))
+abbrev pub member_environment : List Declaration → Surrounding → ResultType → List Formal → Environment
+member_environment ds class result fs = in_body (InMember result) (declared_formals fs) (in_class class (at_top ds))
 
 member_agrees : (ds : List Declaration) (class : Surrounding) → AreFirstItems class.items → (result : ResultType) (fs : List Formal) → are_int_formals fs ≡ true
-    → Agrees (member_here ds class result fs) (bound no_variable fs)
+    → Agrees (member_environment ds class result fs) (bound no_variable fs)
 member_agrees ds class items result fs h name =
     let only : (declared_formals fs ++ declared_fields InState (state_of class.items)) ≡ declared_formals fs =
     ap (λ state. declared_formals fs ++ declared_fields InState state) (no_state class.items items) ∙ append-nil (declared_formals fs) in
@@ -106,44 +106,44 @@ member_agrees ds class items result fs h name =
 abbrev block_gives : Block → Bool
 block_gives = fold-Block Bool Bool first.result_step first.block_step
 
-abbrev block_actions : Block → Actions
-block_actions = fold-Block Action Actions action.statement_step action.block_step
+abbrev block_stmts : Block → Stmts
+block_stmts = fold-Block Stmt Stmts stmt.statement_step stmt.block_step
 
-record Gives (nodes : List Placed) (fits : Bool) : Type 0 where
+record Gives (nodes : List Located) (fits : Bool) : Type 0 where
   pub holds : held nodes ≡ fits
   pub none : locals_among nodes ≡ []
 
-result_layer : (here : Here) (scope : Scope) → Agrees here scope → (l : Statement-F Statement Block) → first.result_step (map-Statement Statement Block Bool Bool gives_result block_gives l) ≡ true
-    → Gives (action_walk (action.statement_step (map-Statement Statement Block Action Actions action_of block_actions l)) here).nodes (result_fits scope l)
-result_layer here scope agrees (Statement-F.OfBlock at block) h = absurd cc
-result_layer here scope agrees (Statement-F.Declare at local) h = absurd cc
-result_layer here scope agrees (Statement-F.Assign at assignment) h = absurd cc
-result_layer here scope agrees (Statement-F.CallAlone at call) h = absurd cc
-result_layer here scope agrees (Statement-F.Create at target) h = absurd cc
-result_layer here scope agrees (Statement-F.If at test then_part else_part) h = absurd cc
-result_layer here scope agrees (Statement-F.While at test body) h = absurd cc
-result_layer here scope agrees (Statement-F.For at head body) h = absurd cc
-result_layer here scope agrees (Statement-F.Print at arguments) h = absurd cc
-result_layer here scope agrees (Statement-F.Rtf at value) h =
-    record { holds = phrase_held here scope agrees (phrase_of_flow value) (flow_is_first value h); none = phrase_locals here (phrase_of_flow value) (flow_is_first value h) }
-result_layer here scope agrees (Statement-F.Return at value) h = absurd cc
-result_layer here scope agrees (Statement-F.Empty at) h = absurd cc
+result_layer : (environment : Environment) (scope : Scope) → Agrees environment scope → (l : Statement-F Statement Block) → first.result_step (map-Statement Statement Block Bool Bool gives_result block_gives l) ≡ true
+    → Gives (stmt_walk (stmt.statement_step (map-Statement Statement Block Stmt Stmts stmt_of block_stmts l)) environment).nodes (result_fits scope l)
+result_layer environment scope agrees (Statement-F.OfBlock at block) h = absurd cc
+result_layer environment scope agrees (Statement-F.Declare at local) h = absurd cc
+result_layer environment scope agrees (Statement-F.Assign at assignment) h = absurd cc
+result_layer environment scope agrees (Statement-F.CallAlone at call) h = absurd cc
+result_layer environment scope agrees (Statement-F.Create at target) h = absurd cc
+result_layer environment scope agrees (Statement-F.If at test then_part else_part) h = absurd cc
+result_layer environment scope agrees (Statement-F.While at test body) h = absurd cc
+result_layer environment scope agrees (Statement-F.For at head body) h = absurd cc
+result_layer environment scope agrees (Statement-F.Print at arguments) h = absurd cc
+result_layer environment scope agrees (Statement-F.Rtf at value) h =
+    record { holds = expr_held environment scope agrees (expr_of_flow value) (flow_is_first value h); none = expr_locals environment (expr_of_flow value) (flow_is_first value h) }
+result_layer environment scope agrees (Statement-F.Return at value) h = absurd cc
+result_layer environment scope agrees (Statement-F.Empty at) h = absurd cc
 
-result_held : (here : Here) (scope : Scope) → Agrees here scope → (s : Statement) → gives_result s ≡ true → Gives (action_walk (action_of s) here).nodes (result_fits scope (out-Statement s))
-result_held here scope agrees s h =
-    subst (λ (a : Action). Gives (action_walk a here).nodes (result_fits scope (out-Statement s))) (sym (fold_out-Statement Action Actions action.statement_step action.block_step s))
-    (result_layer here scope agrees (out-Statement s) (sym (fold_out-Statement Bool Bool first.result_step first.block_step s) ∙ h))
+result_held : (environment : Environment) (scope : Scope) → Agrees environment scope → (s : Statement) → gives_result s ≡ true → Gives (stmt_walk (stmt_of s) environment).nodes (result_fits scope (out-Statement s))
+result_held environment scope agrees s h =
+    subst (λ (a : Stmt). Gives (stmt_walk a environment).nodes (result_fits scope (out-Statement s))) (sym (fold_out-Statement Stmt Stmts stmt.statement_step stmt.block_step s))
+    (result_layer environment scope agrees (out-Statement s) (sym (fold_out-Statement Bool Bool first.result_step first.block_step s) ∙ h))
 
-results_held : (here : Here) (scope : Scope) → Agrees here scope → (ss : List Statement) → is_one_result ss ≡ true
-    → Gives (actions_walk (in_turn (map action_of ss)) here).nodes (list_all (λ s. result_fits scope (out-Statement s)) ss)
-results_held here scope agrees [] h = absurd cc
-results_held here scope agrees (s ∷ []) h =
-    let one = result_held here scope agrees s h in
+results_held : (environment : Environment) (scope : Scope) → Agrees environment scope → (ss : List Statement) → is_one_result ss ≡ true
+    → Gives (stmts_walk (in_turn (map stmt_of ss)) environment).nodes (list_all (λ s. result_fits scope (out-Statement s)) ss)
+results_held environment scope agrees [] h = absurd cc
+results_held environment scope agrees (s ∷ []) h =
+    let one = result_held environment scope agrees s h in
     record {
-      holds = held_append (action_walk (action_of s) here).nodes [] ∙ ap (λ b. b && true) one.holds;
-      none = locals_append (action_walk (action_of s) here).nodes [] ∙ ap (λ (all : List Declared). all ++ []) one.none;
+      holds = held_append (stmt_walk (stmt_of s) environment).nodes [] ∙ ap (λ b. b && true) one.holds;
+      none = locals_append (stmt_walk (stmt_of s) environment).nodes [] ∙ ap (λ (all : List Declared). all ++ []) one.none;
     }
-results_held here scope agrees (s ∷ t ∷ others) h = absurd cc
+results_held environment scope agrees (s ∷ t ∷ others) h = absurd cc
 
 -- ---- a member's body
 
@@ -152,12 +152,12 @@ few_fit n few most h e = grind (arith, nat_tests)
 
 pub member_held : (ds : List Declaration) (class : Surrounding) → AreFirstItems class.items → (result : ResultType) (fs : List Formal) → are_int_formals fs ≡ true
     → (at : ℕ) (ss : List Statement) → is_one_result ss ≡ true → nat_le (length fs) most_formals ≡ true
-    → held (routine_nodes at (member_here ds class result fs) fs (actions_walk (in_turn (map action_of ss)) (member_here ds class result fs)).nodes)
+    → held (routine_nodes at (member_environment ds class result fs) fs (stmts_walk (in_turn (map stmt_of ss)) (member_environment ds class result fs)).nodes)
     ≡ list_all (λ s. result_fits (bound no_variable fs) (out-Statement s)) ss
 member_held ds class items result fs h at ss one few =
-    let here = member_here ds class result fs in
-    let nodes = (actions_walk (in_turn (map action_of ss)) here).nodes in
-    let all = results_held here (bound no_variable fs) (member_agrees ds class items result fs h) ss one in
+    let environment = member_environment ds class result fs in
+    let nodes = (stmts_walk (in_turn (map stmt_of ss)) environment).nodes in
+    let all = results_held environment (bound no_variable fs) (member_agrees ds class items result fs h) ss one in
     let words : words_of_variables ds (declared_formals fs ++ locals_among nodes) ≡ length fs =
     ap (λ (locals : List Declared). words_of_variables ds (declared_formals fs ++ locals)) all.none ∙ ap (words_of_variables ds) (append-nil (declared_formals fs)) ∙ formals_words ds fs h in
     ap₂ (λ a b. a && b)

@@ -4,37 +4,37 @@ use Rattle.std.proofs.lemmas.List.Folds.{list_all-append}
 use Rattle.std.specs.List.{list_all}
 use Rattle.mpl_ast.specs.declared.expression.Target.TheVariants as target
 use Rattle.mpl_ast.specs.declared.program.Declaration.{Declaration}
-use Rattle.mpl_mean.specs.ExpressionRules.{is_one_value, place_may_stand}
-use Rattle.mpl_mean.specs.NameRules.{name_is_known}
-use Rattle.mpl_mean.specs.Nodes.{Placed, phrase_nodes}
-use Rattle.mpl_mean.specs.Phrases.{Phrase}
-use Rattle.mpl_mean.specs.Phrases as phrase
-use Rattle.mpl_mean.specs.Rules.{Failure, Rule, rule, first_rules, failures_at, failures_among, is_empty}
-use Rattle.mpl_mean.specs.Scopes.{Here, variable_of}
-use Rattle.mpl_mean.specs.Types.{Declared, OneValue, ARegular, OfInt, Shape, shape_of}
-use Rattle.mpl_mean.specs.Typing.{type_of, type_of_whole, variable_shape}
-use Rattle.mpl_mean.proofs.FirstExpressions.{IsFirst}
-use Rattle.mpl_mean.proofs.FirstNodes.{listed}
-use Rattle.mpl_mean.proofs.FirstTypes.{AreFirstItems, IsFirstType, binary_first}
-use Rattle.mentat_cmd.specs.Bodies.{phrase_fits}
+use Rattle.mpl_mean.specs.TypeRules.ExpressionRules.{is_one_value, place_may_stand}
+use Rattle.mpl_mean.specs.TypeRules.NameRules.{name_is_known}
+use Rattle.mpl_mean.specs.TypeRules.Nodes.{Located, expr_nodes}
+use Rattle.mpl_mean.specs.TypeRules.Expr.{Expr}
+use Rattle.mpl_mean.specs.TypeRules.Expr as expr
+use Rattle.mpl_mean.specs.TypeRules.Rules.{Failure, Rule, rule, first_rules, failures_at, failures_among, is_empty}
+use Rattle.mpl_mean.specs.TypeRules.Scopes.{Environment, variable_of}
+use Rattle.mpl_mean.specs.TypeRules.Types.{Declared, OneValue, ARegular, OfInt, Shape, shape_of}
+use Rattle.mpl_mean.specs.TypeRules.Typing.{type_of, type_of_whole, variable_shape}
+use Rattle.mpl_mean.proofs.SevenRules.FirstExpressions.{IsFirst}
+use Rattle.mpl_mean.proofs.SevenRules.FirstNodes.{listed}
+use Rattle.mpl_mean.proofs.SevenRules.FirstTypes.{AreFirstItems, IsFirstType, binary_first}
+use Rattle.mentat_cmd.specs.Bodies.{expr_fits}
 use Rattle.mentat_cmd.specs.Scope.{Kind, ANumber, AnObject, Scope, is_number}
 
 -- ---- nodes
 
-abbrev pub held_at : Placed → Bool
+abbrev pub held_at : Located → Bool
 held_at p = is_empty (failures_at first_rules p)
 
-abbrev pub held : List Placed → Bool
+abbrev pub held : List Located → Bool
 held = list_all held_at
 
-pub held_append : (xs ys : List Placed) → held (xs ++ ys) ≡ (held xs && held ys)
+pub held_append : (xs ys : List Located) → held (xs ++ ys) ≡ (held xs && held ys)
 held_append = list_all-append held_at
 
 empty_append : (xs ys : List Failure) → is_empty (xs ++ ys) ≡ (is_empty xs && is_empty ys)
 empty_append [] ys = refl
 empty_append (x ∷ xs) ys = refl
 
-pub none_fails : (ps : List Placed) → is_empty (failures_among first_rules ps) ≡ held ps
+pub none_fails : (ps : List Located) → is_empty (failures_among first_rules ps) ≡ held ps
 none_fails [] = refl
 none_fails (p ∷ ps) = empty_append (failures_at first_rules p) (failures_among first_rules ps) ∙ ap (λ b. held_at p && b) (none_fails ps)
 
@@ -60,8 +60,8 @@ Describes ds (Some d) (Some ANumber) = shape_of ds (Some d) ≡ Some (OneValue O
 Describes ds (Some d) (Some (AnObject items)) = (shape_of ds (Some d) ≡ Some (ARegular items)) × AreFirstItems items
 Describes ds variable kind = ⊥
 
-abbrev pub Agrees : Here → Scope → Type 0
-Agrees here scope = (name : List ℕ) → Describes here.declarations (variable_of here name) (scope name)
+abbrev pub Agrees : Environment → Scope → Type 0
+Agrees environment scope = (name : List ℕ) → Describes environment.declarations (variable_of environment name) (scope name)
 
 whole_held : (ds : List Declaration) (d : Option Declared) (k : Option Kind) → Describes ds d k → (is_one_value (shape_of ds d) && (is_some d && true)) ≡ is_number k
 whole_held ds None None h = refl
@@ -77,20 +77,20 @@ whole_type ds d k h = absurd h
 
 -- ---- expressions
 
-pub phrase_held : (here : Here) (scope : Scope) → Agrees here scope → (p : Phrase) → IsFirst p → held (phrase_nodes here p) ≡ phrase_fits scope p
-phrase_held here scope agrees (phrase.Number at) h = refl
-phrase_held here scope agrees (phrase.Whole at (target.Variable t v)) h =
-    ap₂ (λ a b. a && (b && true)) (by_one at (rule 15 place_may_stand) (is_one_value (variable_shape here v.text))) (by_one v.from (rule 1 name_is_known) (is_some (variable_of here v.text)))
-    ∙ whole_held here.declarations (variable_of here v.text) (scope v.text) (agrees v.text)
-phrase_held here scope agrees (phrase.Whole at (target.Field t v f)) h = absurd cc
-phrase_held here scope agrees (phrase.Binary at phrase.Arithmetic l r) h =
-    held_append (phrase_nodes here l) (phrase_nodes here r) ∙ ap₂ (λ a b. a && b) (phrase_held here scope agrees l h.0) (phrase_held here scope agrees r h.1)
-phrase_held here scope agrees other h = absurd h
+pub expr_held : (environment : Environment) (scope : Scope) → Agrees environment scope → (p : Expr) → IsFirst p → held (expr_nodes environment p) ≡ expr_fits scope p
+expr_held environment scope agrees (expr.Number at) h = refl
+expr_held environment scope agrees (expr.Whole at (target.Variable t v)) h =
+    ap₂ (λ a b. a && (b && true)) (by_one at (rule 15 place_may_stand) (is_one_value (variable_shape environment v.text))) (by_one v.from (rule 1 name_is_known) (is_some (variable_of environment v.text)))
+    ∙ whole_held environment.declarations (variable_of environment v.text) (scope v.text) (agrees v.text)
+expr_held environment scope agrees (expr.Whole at (target.Field t v f)) h = absurd cc
+expr_held environment scope agrees (expr.Binary at expr.Arithmetic l r) h =
+    held_append (expr_nodes environment l) (expr_nodes environment r) ∙ ap₂ (λ a b. a && b) (expr_held environment scope agrees l h.0) (expr_held environment scope agrees r h.1)
+expr_held environment scope agrees other h = absurd h
 
-pub phrase_type : (here : Here) (scope : Scope) → Agrees here scope → (p : Phrase) → IsFirst p → IsFirstType (type_of here p)
-phrase_type here scope agrees (phrase.Number at) h = tt
-phrase_type here scope agrees (phrase.Whole at (target.Variable t v)) h = whole_type here.declarations (variable_of here v.text) (scope v.text) (agrees v.text)
-phrase_type here scope agrees (phrase.Whole at (target.Field t v f)) h = absurd cc
-phrase_type here scope agrees (phrase.Binary at phrase.Arithmetic l r) h =
-    binary_first (type_of here l) (type_of here r) (phrase_type here scope agrees l h.0) (phrase_type here scope agrees r h.1)
-phrase_type here scope agrees other h = absurd h
+pub expr_type : (environment : Environment) (scope : Scope) → Agrees environment scope → (p : Expr) → IsFirst p → IsFirstType (type_of environment p)
+expr_type environment scope agrees (expr.Number at) h = tt
+expr_type environment scope agrees (expr.Whole at (target.Variable t v)) h = whole_type environment.declarations (variable_of environment v.text) (scope v.text) (agrees v.text)
+expr_type environment scope agrees (expr.Whole at (target.Field t v f)) h = absurd cc
+expr_type environment scope agrees (expr.Binary at expr.Arithmetic l r) h =
+    binary_first (type_of environment l) (type_of environment r) (expr_type environment scope agrees l h.0) (expr_type environment scope agrees r h.1)
+expr_type environment scope agrees other h = absurd h

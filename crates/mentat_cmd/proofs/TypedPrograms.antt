@@ -10,18 +10,18 @@ use Rattle.mpl_ast.specs.declared.class.Kind.TheVariants.{Regular, Persistent}
 use Rattle.mpl_ast.specs.declared.program.Declaration.{Declaration}
 use Rattle.mpl_ast.specs.declared.program.Declaration.TheVariants as declaration
 use Rattle.mpl_ast.specs.declared.program.Program.{Program}
-use Rattle.mpl_mean.specs.Actions.{actions_of}
-use Rattle.mpl_mean.specs.FirstForm.{are_first, are_ints, is_class, is_first_form, is_first_item, is_first_statement, is_int, is_int_result, is_one_result}
-use Rattle.mpl_mean.specs.FirstForm as first
-use Rattle.mpl_mean.specs.Layout.{formals_of}
-use Rattle.mpl_mean.specs.ProgramNodes.{Inside, OfRoutine, heres, inner_nodes, inners, inside_declaration, inside_item, insides, nodes, nodes_inside, outline_nodes, surrounding}
-use Rattle.mpl_mean.specs.Rules.{is_empty, is_typed, rule}
-use Rattle.mpl_mean.specs.Scopes.{Body, Surrounding, InFunction, InMain, at_top, in_body, in_class, is_main}
-use Rattle.mpl_mean.specs.SizeRules.{most_declarations, most_formals, most_members, most_words_of_variables, variables_fit}
-use Rattle.mpl_mean.specs.StatementNodes.{locals_among}
-use Rattle.mpl_mean.specs.Types.{words_of_variables}
-use Rattle.mpl_mean.proofs.FirstPrograms.{first_form_failures}
-use Rattle.mpl_mean.proofs.FirstTypes.{AreFirstItems}
+use Rattle.mpl_mean.specs.TypeRules.Stmt.{stmts_of}
+use Rattle.mpl_mean.specs.FirstForms.FirstForm.{are_first, are_ints, is_class, is_first_form, is_first_item, is_first_statement, is_int, is_int_result, is_one_result}
+use Rattle.mpl_mean.specs.FirstForms.FirstForm as first
+use Rattle.mpl_mean.specs.Meaning.Layout.{formals_of}
+use Rattle.mpl_mean.specs.TypeRules.ProgramNodes.{Inside, OfRoutine, environments, inner_nodes, inners, inside_declaration, inside_item, insides, nodes, nodes_inside, outline_nodes, surrounding}
+use Rattle.mpl_mean.specs.TypeRules.Rules.{is_empty, is_typed, rule}
+use Rattle.mpl_mean.specs.TypeRules.Scopes.{Body, Surrounding, InFunction, InMain, at_top, in_body, in_class, is_main}
+use Rattle.mpl_mean.specs.TypeRules.SizeRules.{most_declarations, most_formals, most_members, most_words_of_variables, variables_fit}
+use Rattle.mpl_mean.specs.TypeRules.StatementNodes.{locals_among}
+use Rattle.mpl_mean.specs.TypeRules.Types.{words_of_variables}
+use Rattle.mpl_mean.proofs.SevenRules.FirstPrograms.{first_form_failures}
+use Rattle.mpl_mean.proofs.SevenRules.FirstTypes.{AreFirstItems}
 use Rattle.mentat_cmd.specs.Bodies.{bodies_fit, member_body_fits}
 use Rattle.mentat_cmd.specs.Outline.{are_distinct, declaration_fits, member_fits, name_of_declaration, name_of_formal, name_of_item, outline_fits}
 use Rattle.mentat_cmd.specs.Typed.{program_fits}
@@ -34,11 +34,11 @@ use Rattle.mentat_cmd.proofs.TypedScopes.{AllItems, items_first}
 use Rattle.mpl_mean.proofs.Truth.{both_true, four_true, and_true_right}
 
 abbrev inside_held : Inside → Bool
-inside_held i = held (inner_nodes i.here i.inner)
+inside_held i = held (inner_nodes i.environment i.inner)
 
-insides_held : (is : List Inside) → held (nodes_inside (map (λ (i : Inside). i.here) is) (map (λ (i : Inside). i.inner) is)) ≡ list_all inside_held is
+insides_held : (is : List Inside) → held (nodes_inside (map (λ (i : Inside). i.environment) is) (map (λ (i : Inside). i.inner) is)) ≡ list_all inside_held is
 insides_held [] = refl
-insides_held (i ∷ is) = held_append (inner_nodes i.here i.inner) _ ∙ ap (λ b. inside_held i && b) (insides_held is)
+insides_held (i ∷ is) = held_append (inner_nodes i.environment i.inner) _ ∙ ap (λ b. inside_held i && b) (insides_held is)
 
 -- ---- members
 
@@ -81,7 +81,7 @@ main_inside ds items (declaration.Class at line kind name is) h = absurd cc
 main_inside ds items (declaration.Function at result name None body) h =
     let e = four_true (is_int result) (bytes_eq name.text (codes "main")) true (list_all is_first_statement body.statements) h in
     and_true_right _
-    ∙ ap (λ (b : Body). held (inner_nodes (in_body b [] (at_top ds)) (OfRoutine at.span.from [] (actions_of body)))) (ap (λ t. if t then InMain else InFunction result) e.1)
+    ∙ ap (λ (b : Body). held (inner_nodes (in_body b [] (at_top ds)) (OfRoutine at.span.from [] (stmts_of body)))) (ap (λ t. if t then InMain else InFunction result) e.1)
     ∙ ap (λ b. b && held (main_nodes ds body.statements))
     (by_one at.span.from (rule 7 variables_fit) (nat_le (words_of_variables ds (locals_among (main_nodes ds body.statements))) most_words_of_variables))
     ∙ main_held ds items body.statements e.3 most_words_of_variables
@@ -109,7 +109,7 @@ pub typed_fits : (p : Program) → is_first_form p ≡ true → is_typed p ≡ p
 typed_fits p h =
     let ds = p.declarations in
     ap is_empty (first_form_failures p h) ∙ none_fails (nodes p)
-    ∙ held_append (outline_nodes p) (nodes_inside (heres p) (inners p))
-    ∙ both_fit (held (outline_nodes p)) (outline_fits ds) (held (nodes_inside (heres p) (inners p))) (list_all (bodies_fit ds) ds) (outline_held p h) (λ fits.
+    ∙ held_append (outline_nodes p) (nodes_inside (environments p) (inners p))
+    ∙ both_fit (held (outline_nodes p)) (outline_fits ds) (held (nodes_inside (environments p) (inners p))) (list_all (bodies_fit ds) ds) (outline_held p h) (λ fits.
     insides_held (insides p)
     ∙ all_inside ds (items_first ds h) ds h (both_true (nat_le (length ds) most_declarations && are_distinct (map name_of_declaration ds)) (list_all declaration_fits ds) fits).1)

@@ -8,11 +8,11 @@ use Rattle.mpl_ast.specs.declared.class.Item.{Item}
 use Rattle.mpl_ast.specs.declared.class.Kind.TheVariants.{Regular, Persistent}
 use Rattle.mpl_ast.specs.declared.program.Declaration.{Declaration}
 use Rattle.mpl_ast.specs.declared.program.Declaration.TheVariants as declaration
-use Rattle.mpl_mean.specs.FirstForm.{are_first, is_class, is_main}
-use Rattle.mpl_mean.specs.NameRules.{is_meant}
-use Rattle.mpl_mean.specs.Scopes.{Here, InMain, names_beside, variable_of}
-use Rattle.mpl_mean.specs.Types.{AClass, ARegular, AsLocal, Declared, Meant, Nothing, first_named, meant_by, names, shape_of_meant, words_of_meant}
-use Rattle.mpl_mean.proofs.FirstTypes.{AreFirstItems}
+use Rattle.mpl_mean.specs.FirstForms.FirstForm.{are_first, is_class, is_main}
+use Rattle.mpl_mean.specs.TypeRules.NameRules.{is_meant}
+use Rattle.mpl_mean.specs.TypeRules.Scopes.{Environment, InMain, names_beside, variable_of}
+use Rattle.mpl_mean.specs.TypeRules.Types.{AClass, ARegular, AsLocal, Declared, Meant, Nothing, first_named, meant_by, names, shape_of_meant, words_of_meant}
+use Rattle.mpl_mean.proofs.SevenRules.FirstTypes.{AreFirstItems}
 use Rattle.mentat_cmd.specs.Bodies.{class_items}
 use Rattle.mentat_cmd.specs.Scope.{Kind, Scope, declare, with_variable}
 use Rattle.mentat_cmd.proofs.TypedNodes.{Agrees, Describes}
@@ -65,13 +65,13 @@ words_items m found h = absurd h
 -- ---- the variables of `main`
 
 -- in `main`, behind these locals
-abbrev pub main_here : List Declaration → List Declared → Here
-main_here ds block = record { declarations = ds; class = None; body = InMain; formals = []; blocks = block ∷ [] }
+abbrev pub main_environment : List Declaration → List Declared → Environment
+main_environment ds block = record { declarations = ds; class = None; body = InMain; formals = []; blocks = block ∷ [] }
 
 all_of_main : (block : List Declared) → (((block ++ []) ++ []) ++ []) ≡ block
 all_of_main block = append-nil ((block ++ []) ++ []) ∙ append-nil (block ++ []) ∙ append-nil block
 
-variable_in_main : (ds : List Declaration) (block : List Declared) (name : List ℕ) → variable_of (main_here ds block) name ≡ first_named name block
+variable_in_main : (ds : List Declaration) (block : List Declared) (name : List ℕ) → variable_of (main_environment ds block) name ≡ first_named name block
 variable_in_main ds block name = ap (first_named name) (all_of_main block)
 
 -- one of two variables
@@ -96,7 +96,7 @@ joined ds d k h (Some x) j false e absent = e
 
 -- behind one more local, whose name is new
 pub agrees_behind : (ds : List Declaration) (block : List Declared) (scope : Scope) (d : Declared) (k : Kind) → Describes ds (Some d) (Some k)
-    → Agrees (main_here ds block) scope → scope d.name ≡ None → Agrees (main_here ds (block ++ d ∷ [])) (with_variable d.name k scope)
+    → Agrees (main_environment ds block) scope → scope d.name ≡ None → Agrees (main_environment ds (block ++ d ∷ [])) (with_variable d.name k scope)
 agrees_behind ds block scope d k h agrees absent name =
     let old = subst (λ o. Describes ds o (scope name)) (variable_in_main ds block name) (agrees name) in
     let none : bytes_eq d.name name ≡ true → scope name ≡ None = λ same. ap scope (sym ((bytes_eq-Decides d.name name).0 same)) ∙ absent in
@@ -126,11 +126,11 @@ described_some ds None None h = refl
 described_some ds (Some d) (Some k) h = refl
 described_some ds d k h = absurd h
 
-pub name_beside : (ds : List Declaration) (block : List Declared) (scope : Scope) → Agrees (main_here ds block) scope → (name : List ℕ)
-    → list_any (bytes_eq name) (names_beside (main_here ds block)) ≡ is_some (scope name)
+pub name_beside : (ds : List Declaration) (block : List Declared) (scope : Scope) → Agrees (main_environment ds block) scope → (name : List ℕ)
+    → list_any (bytes_eq name) (names_beside (main_environment ds block)) ≡ is_some (scope name)
 name_beside ds block scope agrees name =
     ap (list_any (bytes_eq name)) (append-nil (names block)) ∙ among_names name block ∙ ap is_some (sym (variable_in_main ds block name))
-    ∙ described_some ds (variable_of (main_here ds block) name) (scope name) (agrees name)
+    ∙ described_some ds (variable_of (main_environment ds block) name) (scope name) (agrees name)
 
 -- what is declared is new
 pub declared_is : (name : List ℕ) (k : Kind) (scope new : Scope) → declare name k scope ≡ Some new → (scope name ≡ None) × (with_variable name k scope ≡ new)

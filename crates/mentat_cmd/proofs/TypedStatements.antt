@@ -17,82 +17,82 @@ use Rattle.mpl_ast.specs.declared.statement.Declarator.{Declarator}
 use Rattle.mpl_ast.specs.declared.statement.Declarator.TheVariants.{Plain, Initialized}
 use Rattle.mpl_ast.specs.declared.statement.TypeName.{TypeName}
 use Rattle.mpl_ast.specs.declared.statement.TypeName.TheVariants as type
-use Rattle.mpl_mean.specs.Actions.{NewLocal, new_local}
-use Rattle.mpl_mean.specs.Actions as action
-use Rattle.mpl_mean.specs.FirstForm.{is_call, is_first_call, is_first_expression, is_first_flow, is_first_local, is_int, is_variable}
-use Rattle.mpl_mean.specs.FirstForm as first
-use Rattle.mpl_mean.specs.NameRules.{is_meant, name_is_known, name_is_new}
-use Rattle.mpl_mean.specs.Nodes.{Placed, nodes_of_each, phrase_nodes}
-use Rattle.mpl_mean.specs.Phrases.{Phrase, Phrases, phrase_of, phrase_of_call, phrase_of_flow}
-use Rattle.mpl_mean.specs.Phrases as phrase
-use Rattle.mpl_mean.specs.Rules.{rule}
-use Rattle.mpl_mean.specs.Scopes.{Here, names_beside}
-use Rattle.mpl_mean.specs.StatementNodes.{Walks, action_walk, declared_local, local_of, locals_among, print_walk}
-use Rattle.mpl_mean.specs.Types.{Declared, meant_by, words_of_variables}
-use Rattle.mpl_mean.proofs.FirstActions.{AreFirst, IsFirstCall, passed_is_first}
-use Rattle.mpl_mean.proofs.FirstExpressions.{IsFirst, expression_is_first}
+use Rattle.mpl_mean.specs.TypeRules.Stmt.{NewLocal, new_local}
+use Rattle.mpl_mean.specs.TypeRules.Stmt as stmt
+use Rattle.mpl_mean.specs.FirstForms.FirstForm.{is_call, is_first_call, is_first_expression, is_first_flow, is_first_local, is_int, is_variable}
+use Rattle.mpl_mean.specs.FirstForms.FirstForm as first
+use Rattle.mpl_mean.specs.TypeRules.NameRules.{is_meant, name_is_known, name_is_new}
+use Rattle.mpl_mean.specs.TypeRules.Nodes.{Located, nodes_of_each, expr_nodes}
+use Rattle.mpl_mean.specs.TypeRules.Expr.{Expr, Exprs, expr_of, expr_of_call, expr_of_flow}
+use Rattle.mpl_mean.specs.TypeRules.Expr as expr
+use Rattle.mpl_mean.specs.TypeRules.Rules.{rule}
+use Rattle.mpl_mean.specs.TypeRules.Scopes.{Environment, names_beside}
+use Rattle.mpl_mean.specs.TypeRules.StatementNodes.{Walks, stmt_walk, declared_local, local_of, locals_among, print_walk}
+use Rattle.mpl_mean.specs.TypeRules.Types.{Declared, meant_by, words_of_variables}
+use Rattle.mpl_mean.proofs.SevenRules.FirstStmts.{AreFirst, IsFirstCall, passed_is_first}
+use Rattle.mpl_mean.proofs.SevenRules.FirstExpressions.{IsFirst, expression_is_first}
 use Rattle.mentat_cmd.specs.Bodies.{behind_local, call_fits, class_items, declare_object, expression_fits, value_fits}
 use Rattle.mentat_cmd.specs.Scope.{ANumber, AnObject, Scope, declare}
 use Rattle.mentat_cmd.proofs.TypedCalls.{call_held}
-use Rattle.mentat_cmd.proofs.TypedNodes.{Agrees, by_one, held, held_append, phrase_held}
-use Rattle.mentat_cmd.proofs.TypedScopes.{AllItems, IsItems, agrees_behind, declared_is, declared_some, main_here, meant_items, name_beside, shape_items, words_items}
+use Rattle.mentat_cmd.proofs.TypedNodes.{Agrees, by_one, held, held_append, expr_held}
+use Rattle.mentat_cmd.proofs.TypedScopes.{AllItems, IsItems, agrees_behind, declared_is, declared_some, main_environment, meant_items, name_beside, shape_items, words_items}
 use Rattle.mpl_mean.proofs.Truth.{both_true, and_true_right}
-use Rattle.mpl_mean.proofs.FirstBodies.{prints_after}
+use Rattle.mpl_mean.proofs.SevenRules.FirstBodies.{prints_after}
 
 -- ---- nodes that declare nothing
 
-pub locals_append : (xs ys : List Placed) → locals_among (xs ++ ys) ≡ locals_among xs ++ locals_among ys
-locals_append = flat_map-append (λ (p : Placed). local_of p.node)
+pub locals_append : (xs ys : List Located) → locals_among (xs ++ ys) ≡ locals_among xs ++ locals_among ys
+locals_append = flat_map-append (λ (p : Located). local_of p.node)
 
-pub phrase_locals : (here : Here) (p : Phrase) → IsFirst p → locals_among (phrase_nodes here p) ≡ []
-phrase_locals here (phrase.Number at) h = refl
-phrase_locals here (phrase.Whole at (target.Variable t v)) h = refl
-phrase_locals here (phrase.Whole at (target.Field t v f)) h = absurd cc
-phrase_locals here (phrase.Binary at phrase.Arithmetic l r) h =
-    locals_append (phrase_nodes here l) (phrase_nodes here r) ∙ ap₂ (λ a b. a ++ b) (phrase_locals here l h.0) (phrase_locals here r h.1)
-phrase_locals here other h = absurd h
+pub expr_locals : (environment : Environment) (p : Expr) → IsFirst p → locals_among (expr_nodes environment p) ≡ []
+expr_locals environment (expr.Number at) h = refl
+expr_locals environment (expr.Whole at (target.Variable t v)) h = refl
+expr_locals environment (expr.Whole at (target.Field t v f)) h = absurd cc
+expr_locals environment (expr.Binary at expr.Arithmetic l r) h =
+    locals_append (expr_nodes environment l) (expr_nodes environment r) ∙ ap₂ (λ a b. a ++ b) (expr_locals environment l h.0) (expr_locals environment r h.1)
+expr_locals environment other h = absurd h
 
-each_locals : (here : Here) (ps : Phrases) → AreFirst ps → locals_among (nodes_of_each here ps) ≡ []
-each_locals here phrase.NoPhrase h = refl
-each_locals here (phrase.MorePhrases p ps) h =
-    locals_append (phrase_nodes here p) (nodes_of_each here ps) ∙ ap₂ (λ a b. a ++ b) (phrase_locals here p h.0) (each_locals here ps h.1)
+each_locals : (environment : Environment) (ps : Exprs) → AreFirst ps → locals_among (nodes_of_each environment ps) ≡ []
+each_locals environment expr.NoExpr h = refl
+each_locals environment (expr.MoreExprs p ps) h =
+    locals_append (expr_nodes environment p) (nodes_of_each environment ps) ∙ ap₂ (λ a b. a ++ b) (expr_locals environment p h.0) (each_locals environment ps h.1)
 
-call_locals : (here : Here) (p : Phrase) → IsFirstCall p → locals_among (phrase_nodes here p) ≡ []
-call_locals here (phrase.CallOnTarget at (target.Variable t v) member arguments) h = each_locals here arguments h.1
-call_locals here (phrase.CallOnTarget at (target.Field t v f) member arguments) h = absurd (true≢false (sym h.0))
-call_locals here other h = absurd h
+call_locals : (environment : Environment) (p : Expr) → IsFirstCall p → locals_among (expr_nodes environment p) ≡ []
+call_locals environment (expr.CallOnTarget at (target.Variable t v) member arguments) h = each_locals environment arguments h.1
+call_locals environment (expr.CallOnTarget at (target.Field t v f) member arguments) h = absurd (true≢false (sym h.0))
+call_locals environment other h = absurd h
 
 -- ---- calls
 
-call_layer : (here : Here) (scope : Scope) → Agrees here scope → (l : Call-F Call Flow) → first.call_step (map-Call Call Flow Bool Bool is_first_call is_first_flow l) ≡ true
-    → held (phrase_nodes here (phrase.call_step (map-Call Call Flow Phrase Phrase phrase_of_call phrase_of_flow l))) ≡ call_fits scope l
-call_layer here scope agrees (Call-F.OnOwn at member arguments) h = absurd cc
-call_layer here scope agrees (Call-F.OnTarget at t member arguments) h =
-    let b = both_true (is_variable t) (list_all (λ b. b) (map is_first_flow arguments)) h in call_held here scope agrees at.span.from t member arguments b.0 b.1
+call_layer : (environment : Environment) (scope : Scope) → Agrees environment scope → (l : Call-F Call Flow) → first.call_step (map-Call Call Flow Bool Bool is_first_call is_first_flow l) ≡ true
+    → held (expr_nodes environment (expr.call_step (map-Call Call Flow Expr Expr expr_of_call expr_of_flow l))) ≡ call_fits scope l
+call_layer environment scope agrees (Call-F.OnOwn at member arguments) h = absurd cc
+call_layer environment scope agrees (Call-F.OnTarget at t member arguments) h =
+    let b = both_true (is_variable t) (list_all (λ b. b) (map is_first_flow arguments)) h in call_held environment scope agrees at.span.from t member arguments b.0 b.1
 
-value_layer : (here : Here) (scope : Scope) → Agrees here scope → (l : Flow-F Call Flow) → is_call l ≡ true
-    → held (phrase_nodes here (phrase.flow_step (map-Flow Call Flow Phrase Phrase phrase_of_call phrase_of_flow l))) ≡ value_fits scope l
-value_layer here scope agrees (Flow-F.OfCall at c) h =
-    ap (λ (p : Phrase). held (phrase_nodes here p)) (fold_out-Call Phrase Phrase phrase.call_step phrase.flow_step c)
-    ∙ call_layer here scope agrees (out-Call c) (sym (fold_out-Call Bool Bool first.call_step first.flow_step c) ∙ h)
-value_layer here scope agrees (Flow-F.OfExpression at e) h = absurd cc
+value_layer : (environment : Environment) (scope : Scope) → Agrees environment scope → (l : Flow-F Call Flow) → is_call l ≡ true
+    → held (expr_nodes environment (expr.flow_step (map-Flow Call Flow Expr Expr expr_of_call expr_of_flow l))) ≡ value_fits scope l
+value_layer environment scope agrees (Flow-F.OfCall at c) h =
+    ap (λ (p : Expr). held (expr_nodes environment p)) (fold_out-Call Expr Expr expr.call_step expr.flow_step c)
+    ∙ call_layer environment scope agrees (out-Call c) (sym (fold_out-Call Bool Bool first.call_step first.flow_step c) ∙ h)
+value_layer environment scope agrees (Flow-F.OfExpression at e) h = absurd cc
 
-value_held : (here : Here) (scope : Scope) → Agrees here scope → (f : Flow) → is_call (out-Flow f) ≡ true → held (phrase_nodes here (phrase_of_flow f)) ≡ value_fits scope (out-Flow f)
-value_held here scope agrees f h =
-    ap (λ (p : Phrase). held (phrase_nodes here p)) (fold_out-Flow Phrase Phrase phrase.call_step phrase.flow_step f) ∙ value_layer here scope agrees (out-Flow f) h
+value_held : (environment : Environment) (scope : Scope) → Agrees environment scope → (f : Flow) → is_call (out-Flow f) ≡ true → held (expr_nodes environment (expr_of_flow f)) ≡ value_fits scope (out-Flow f)
+value_held environment scope agrees f h =
+    ap (λ (p : Expr). held (expr_nodes environment p)) (fold_out-Flow Expr Expr expr.call_step expr.flow_step f) ∙ value_layer environment scope agrees (out-Flow f) h
 
 -- ---- one statement
 
 -- behind a statement is this scope, and it declared so many words
 pub record Next (ds : List Declaration) (old : List Declared) (walks : Walks) (new : Scope) (n : ℕ) : Type 0 where
   pub block : List Declared
-  pub after : (walks (main_here ds old)).after ≡ main_here ds block
-  pub agrees : Agrees (main_here ds block) new
-  pub words : words_of_variables ds (locals_among (walks (main_here ds old)).nodes) ≡ n
+  pub after : (walks (main_environment ds old)).after ≡ main_environment ds block
+  pub agrees : Agrees (main_environment ds block) new
+  pub words : words_of_variables ds (locals_among (walks (main_environment ds old)).nodes) ≡ n
 
 -- the rules hold where there is a scope behind it
 pub record Goes (ds : List Declaration) (block : List Declared) (walks : Walks) (r : Option Scope) (n : ℕ) : Type 0 where
-  pub holds : held (walks (main_here ds block)).nodes ≡ is_some r
+  pub holds : held (walks (main_environment ds block)).nodes ≡ is_some r
   pub next : (new : Scope) → r ≡ Some new → Next ds block walks new n
 
 chosen_some : (b : Bool) (scope : Scope) → b ≡ is_some (if b then Some scope else None)
@@ -105,30 +105,30 @@ chosen_is false scope new e = absurd cc
 
 -- ---- prints
 
-print_held : (here : Here) (scope : Scope) → Agrees here scope → (es : List Expression) → list_all is_first_expression es ≡ true
-    → held (print_walk (map phrase_of es) here).nodes ≡ list_all (expression_fits scope) es
-print_held here scope agrees [] h = refl
-print_held here scope agrees (e ∷ es) h =
+print_held : (environment : Environment) (scope : Scope) → Agrees environment scope → (es : List Expression) → list_all is_first_expression es ≡ true
+    → held (print_walk (map expr_of es) environment).nodes ≡ list_all (expression_fits scope) es
+print_held environment scope agrees [] h = refl
+print_held environment scope agrees (e ∷ es) h =
     let b = both_true (is_first_expression e) (list_all is_first_expression es) h in
-    held_append (phrase_nodes here (phrase_of e)) (print_walk (map phrase_of es) here).nodes
-    ∙ ap₂ (λ a c. a && c) (phrase_held here scope agrees (phrase_of e) (expression_is_first e b.0)) (print_held here scope agrees es b.1)
+    held_append (expr_nodes environment (expr_of e)) (print_walk (map expr_of es) environment).nodes
+    ∙ ap₂ (λ a c. a && c) (expr_held environment scope agrees (expr_of e) (expression_is_first e b.0)) (print_held environment scope agrees es b.1)
 
-print_locals : (here : Here) (es : List Expression) → list_all is_first_expression es ≡ true → locals_among (print_walk (map phrase_of es) here).nodes ≡ []
-print_locals here [] h = refl
-print_locals here (e ∷ es) h =
+print_locals : (environment : Environment) (es : List Expression) → list_all is_first_expression es ≡ true → locals_among (print_walk (map expr_of es) environment).nodes ≡ []
+print_locals environment [] h = refl
+print_locals environment (e ∷ es) h =
     let b = both_true (is_first_expression e) (list_all is_first_expression es) h in
-    locals_append (phrase_nodes here (phrase_of e)) (print_walk (map phrase_of es) here).nodes
-    ∙ ap₂ (λ a c. a ++ c) (phrase_locals here (phrase_of e) (expression_is_first e b.0)) (print_locals here es b.1)
+    locals_append (expr_nodes environment (expr_of e)) (print_walk (map expr_of es) environment).nodes
+    ∙ ap₂ (λ a c. a ++ c) (expr_locals environment (expr_of e) (expression_is_first e b.0)) (print_locals environment es b.1)
 
-pub print_goes : (ds : List Declaration) (block : List Declared) (scope : Scope) → Agrees (main_here ds block) scope → (at : ℕ) (es : List Expression) → list_all is_first_expression es ≡ true
-    → Goes ds block (action_walk (action.Prints at (map phrase_of es))) (if list_all (expression_fits scope) es then Some scope else None) 0
+pub print_goes : (ds : List Declaration) (block : List Declared) (scope : Scope) → Agrees (main_environment ds block) scope → (at : ℕ) (es : List Expression) → list_all is_first_expression es ≡ true
+    → Goes ds block (stmt_walk (stmt.Prints at (map expr_of es))) (if list_all (expression_fits scope) es then Some scope else None) 0
 print_goes ds block scope agrees at es h = record {
-  holds = print_held (main_here ds block) scope agrees es h ∙ chosen_some (list_all (expression_fits scope) es) scope;
+  holds = print_held (main_environment ds block) scope agrees es h ∙ chosen_some (list_all (expression_fits scope) es) scope;
   next = λ new e. record {
     block = block;
-    after = prints_after (main_here ds block) (map phrase_of es);
-    agrees = subst (Agrees (main_here ds block)) (chosen_is (list_all (expression_fits scope) es) scope new e) agrees;
-    words = ap (words_of_variables ds) (print_locals (main_here ds block) es h);
+    after = prints_after (main_environment ds block) (map expr_of es);
+    agrees = subst (Agrees (main_environment ds block)) (chosen_is (list_all (expression_fits scope) es) scope new e) agrees;
+    words = ap (words_of_variables ds) (print_locals (main_environment ds block) es h);
   };
 }
 
@@ -141,9 +141,9 @@ object_some : (found : Option (List Item)) (name : List ℕ) (scope : Scope) →
 object_some None name scope = refl
 object_some (Some items) name scope = and_true_right (not (is_some (scope name))) ∙ sym (declared_some name (AnObject items) scope)
 
-object_next : (ds : List Declaration) (block : List Declared) (scope : Scope) → Agrees (main_here ds block) scope → (at : At) (class : Name) (name : Name)
+object_next : (ds : List Declaration) (block : List Declared) (scope : Scope) → Agrees (main_environment ds block) scope → (at : At) (class : Name) (name : Name)
     → (found : Option (List Item)) → IsItems (meant_by class.text ds) found → (new : Scope) → declare_object found name.text scope ≡ Some new
-    → Next ds block (action_walk (action.Locals (type.Named at class) (bare name ∷ []))) new 0
+    → Next ds block (stmt_walk (stmt.Locals (type.Named at class) (bare name ∷ []))) new 0
 object_next ds block scope agrees at class name None is new e = absurd cc
 object_next ds block scope agrees at class name (Some items) is new e =
     let d = declared_local (type.Named at class) (bare name) in
@@ -151,16 +151,16 @@ object_next ds block scope agrees at class name (Some items) is new e =
     record {
       block = block ++ d ∷ [];
       after = refl;
-      agrees = subst (Agrees (main_here ds (block ++ d ∷ []))) was.1 (agrees_behind ds block scope d (AnObject items) (shape_items (meant_by class.text ds) items is) agrees was.0);
+      agrees = subst (Agrees (main_environment ds (block ++ d ∷ []))) was.1 (agrees_behind ds block scope d (AnObject items) (shape_items (meant_by class.text ds) items is) agrees was.0);
       words = ap (λ (n : ℕ). 0 + n) (words_items (meant_by class.text ds) items is);
     }
 
-object_goes : (ds : List Declaration) → AllItems ds → (block : List Declared) (scope : Scope) → Agrees (main_here ds block) scope → (at : At) (class : Name) (name : Name)
-    → Goes ds block (action_walk (action.Locals (type.Named at class) (bare name ∷ []))) (declare_object (class_items class.text ds) name.text scope) 0
+object_goes : (ds : List Declaration) → AllItems ds → (block : List Declared) (scope : Scope) → Agrees (main_environment ds block) scope → (at : At) (class : Name) (name : Name)
+    → Goes ds block (stmt_walk (stmt.Locals (type.Named at class) (bare name ∷ []))) (declare_object (class_items class.text ds) name.text scope) 0
 object_goes ds all block scope agrees at class name = record {
   holds =
       ap₂ (λ a b. a && (b && true)) (by_one class.from (rule 1 name_is_known) (is_meant (meant_by class.text ds)))
-      (by_one name.from (rule 2 name_is_new) (not (list_any (bytes_eq name.text) (names_beside (main_here ds block)))))
+      (by_one name.from (rule 2 name_is_new) (not (list_any (bytes_eq name.text) (names_beside (main_environment ds block)))))
       ∙ ap₂ (λ a b. a && (not b && true)) (meant_items (meant_by class.text ds) (class_items class.text ds) (all class.text)) (name_beside ds block scope agrees name.text)
       ∙ object_some (class_items class.text ds) name.text scope;
   next = λ new e. object_next ds block scope agrees at class name (class_items class.text ds) (all class.text) new e;
@@ -169,7 +169,7 @@ object_goes ds all block scope agrees at class name = record {
 -- ---- numbers
 
 abbrev given : Name → Flow → NewLocal
-given name f = record { name = name; dimension = None; initialiser = Some (phrase_of_flow f) }
+given name f = record { name = name; dimension = None; initialiser = Some (expr_of_flow f) }
 
 and_false : (a : Bool) → (a && false) ≡ false
 and_false true = refl
@@ -179,30 +179,30 @@ number_some : (fits : Bool) (name : List ℕ) (scope : Scope) → (not (is_some 
 number_some true name scope = and_true_right (not (is_some (scope name))) ∙ sym (declared_some name ANumber scope)
 number_some false name scope = and_false (not (is_some (scope name)))
 
-alone : (xs : List Placed) → ((xs ++ []) ++ []) ≡ xs
+alone : (xs : List Located) → ((xs ++ []) ++ []) ≡ xs
 alone xs = append-nil (xs ++ []) ∙ append-nil xs
 
-number_next : (ds : List Declaration) (block : List Declared) (scope : Scope) → Agrees (main_here ds block) scope → (at : At) (name : Name) (f : Flow) → is_call (out-Flow f) ≡ true
+number_next : (ds : List Declaration) (block : List Declared) (scope : Scope) → Agrees (main_environment ds block) scope → (at : At) (name : Name) (f : Flow) → is_call (out-Flow f) ≡ true
     → (fits : Bool) (new : Scope) → (if fits then declare name.text ANumber scope else None) ≡ Some new
-    → Next ds block (action_walk (action.Locals (type.Int at) (given name f ∷ []))) new 1
+    → Next ds block (stmt_walk (stmt.Locals (type.Int at) (given name f ∷ []))) new 1
 number_next ds block scope agrees at name f h false new e = absurd cc
 number_next ds block scope agrees at name f h true new e =
     let d = declared_local (type.Int at) (given name f) in
     let was = declared_is name.text ANumber scope new e in
-    let call = phrase_nodes (main_here ds block) (phrase_of_flow f) in
+    let call = expr_nodes (main_environment ds block) (expr_of_flow f) in
     record {
       block = block ++ d ∷ [];
       after = refl;
-      agrees = subst (Agrees (main_here ds (block ++ d ∷ []))) was.1 (agrees_behind ds block scope d ANumber refl agrees was.0);
-      words = ap (λ (others : List Declared). words_of_variables ds (d ∷ others)) (ap locals_among (alone call) ∙ call_locals (main_here ds block) (phrase_of_flow f) (passed_is_first f h));
+      agrees = subst (Agrees (main_environment ds (block ++ d ∷ []))) was.1 (agrees_behind ds block scope d ANumber refl agrees was.0);
+      words = ap (λ (others : List Declared). words_of_variables ds (d ∷ others)) (ap locals_among (alone call) ∙ call_locals (main_environment ds block) (expr_of_flow f) (passed_is_first f h));
     }
 
-number_goes : (ds : List Declaration) (block : List Declared) (scope : Scope) → Agrees (main_here ds block) scope → (at : At) (name : Name) (f : Flow) → is_call (out-Flow f) ≡ true
-    → Goes ds block (action_walk (action.Locals (type.Int at) (given name f ∷ []))) (if value_fits scope (out-Flow f) then declare name.text ANumber scope else None) 1
+number_goes : (ds : List Declaration) (block : List Declared) (scope : Scope) → Agrees (main_environment ds block) scope → (at : At) (name : Name) (f : Flow) → is_call (out-Flow f) ≡ true
+    → Goes ds block (stmt_walk (stmt.Locals (type.Int at) (given name f ∷ []))) (if value_fits scope (out-Flow f) then declare name.text ANumber scope else None) 1
 number_goes ds block scope agrees at name f h = record {
   holds =
-      ap₂ (λ a b. a && b) (by_one name.from (rule 2 name_is_new) (not (list_any (bytes_eq name.text) (names_beside (main_here ds block)))))
-      (ap held (alone (phrase_nodes (main_here ds block) (phrase_of_flow f))) ∙ value_held (main_here ds block) scope agrees f h)
+      ap₂ (λ a b. a && b) (by_one name.from (rule 2 name_is_new) (not (list_any (bytes_eq name.text) (names_beside (main_environment ds block)))))
+      (ap held (alone (expr_nodes (main_environment ds block) (expr_of_flow f))) ∙ value_held (main_environment ds block) scope agrees f h)
       ∙ ap (λ b. not b && value_fits scope (out-Flow f)) (name_beside ds block scope agrees name.text)
       ∙ number_some (value_fits scope (out-Flow f)) name.text scope;
   next = λ new e. number_next ds block scope agrees at name f h (value_fits scope (out-Flow f)) new e;
@@ -210,8 +210,8 @@ number_goes ds block scope agrees at name f h = record {
 
 -- ---- locals
 
-pub local_goes : (ds : List Declaration) → AllItems ds → (block : List Declared) (scope : Scope) → Agrees (main_here ds block) scope → (t : TypeName) (all : List Declarator) → is_first_local t all ≡ true
-    → Goes ds block (action_walk (action.Locals t (map new_local all))) (behind_local ds t all scope) (if is_int t then 1 else 0)
+pub local_goes : (ds : List Declaration) → AllItems ds → (block : List Declared) (scope : Scope) → Agrees (main_environment ds block) scope → (t : TypeName) (all : List Declarator) → is_first_local t all ≡ true
+    → Goes ds block (stmt_walk (stmt.Locals t (map new_local all))) (behind_local ds t all scope) (if is_int t then 1 else 0)
 local_goes ds items block scope agrees t [] h = absurd cc
 local_goes ds items block scope agrees (type.Named place class) (Plain at name None ∷ []) h = object_goes ds items block scope agrees place class name
 local_goes ds items block scope agrees (type.Int place) (Plain at name None ∷ []) h = absurd cc

@@ -26,8 +26,8 @@ use Rattle.mpl_ast.specs.declared.statement.Local.{Local}
 use Rattle.mpl_ast.specs.declared.statement.Statement.{Statement}
 use Rattle.mpl_ast.specs.declared.statement.Statement as statement
 use Rattle.mpl_ast.specs.declared.statement.TypeName.{TypeName}
-use Rattle.mpl_mean.specs.FirstForm.{is_variable}
-use Rattle.mpl_mean.specs.Weight.{Weighs, no_token, ◌⨾◌, plain, bracketed, with_commas, each_after_comma, in_order, if_any, expression_weighs, flow_weighs, call_weighs, statement_weighs, block_weighs, declarator_weighs, local_weighs, formals_weighs, item_weighs, declaration_weighs, is_light}
+use Rattle.mpl_mean.specs.FirstForms.FirstForm.{is_variable}
+use Rattle.mpl_mean.specs.Text.Weight.{Weighs, no_token, ◌⨾◌, plain, bracketed, with_commas, each_after_comma, in_order, if_any, expression_weighs, flow_weighs, call_weighs, statement_weighs, block_weighs, declarator_weighs, local_weighs, formals_weighs, item_weighs, declaration_weighs, is_light}
 use Rattle.mentat_cmd.specs.Parts.{all_light, is_light_expression, is_light_flow, is_light_call, is_light_declarator, is_light_local, is_light_statement, is_light_block, is_light_item, is_light_declaration}
 use Rattle.mentat_cmd.proofs.Layers.{statement_weighs-print, statement_weighs-declare, statement_weighs-rtf, flow_weighs-call, call_weighs-target}
 use Rattle.mpl_mean.proofs.Truth.{and_true_right}

@@ -24,10 +24,10 @@ use Rattle.mpl_ast.specs.declared.token.Mark.TheVariants as m
 use Rattle.mpl_ast.specs.declared.token.Token.{Token}
 use Rattle.mpl_ast.specs.declared.token.TokenKind.{TokenKind}
 use Rattle.mpl_ast.specs.declared.token.TokenKind.TheVariants as kind
-use Rattle.mpl_mean.specs.ExpressionText.{expression_text, target_text}
-use Rattle.mpl_mean.specs.FirstForm.{is_call, is_first_call, is_first_declarator, is_first_expression, is_first_flow, is_first_local, is_first_statement, is_int, is_named, is_variable}
-use Rattle.mpl_mean.specs.Reading.{Reads, Rest, ◌>>◌, nothing, node, mark, mark_on, keyword, name, is_mark, each, separated, separated_if_any, after_first, optional}
-use Rattle.mpl_mean.specs.StatementText.{block_text, call_text, declarator_text, flow_text, local_text, statement_text, type_text}
+use Rattle.mpl_mean.specs.Text.ExpressionText.{expression_text, target_text}
+use Rattle.mpl_mean.specs.FirstForms.FirstForm.{is_call, is_first_call, is_first_declarator, is_first_expression, is_first_flow, is_first_local, is_first_statement, is_int, is_named, is_variable}
+use Rattle.mpl_mean.specs.Text.Reading.{Reads, Rest, ◌>>◌, nothing, node, mark, mark_on, keyword, name, is_mark, each, separated, separated_if_any, after_first, optional}
+use Rattle.mpl_mean.specs.Text.StatementText.{block_text, call_text, declarator_text, flow_text, local_text, statement_text, type_text}
 use Rattle.mentat_cmd.specs.Ahead.{first_is, is_operand, is_operator}
 use Rattle.mentat_cmd.specs.Parts.{all_light, is_light_block, is_light_call, is_light_declarator, is_light_expression, is_light_flow, is_light_local, is_light_statement}
 use Rattle.mentat_cmd.specs.Stages.{Stage, BeforeBlock, InBlock, BehindPrint, BeforeVariable, BeforeResult, BeforeAssign, BeforeReceiver, BeforeDot, BeforeCalled, BehindCalled, BeforeArguments, BeforeSemicolon, BeforeOperand, BehindExpression, AtEnd, brackets, leads, stage_behind}
@@ -43,7 +43,7 @@ use Rattle.mentat_cmd.proofs.Steps.{parts_read, token_taken, both_read}
 use Rattle.mentat_cmd.proofs.Turns.{leads-some_arguments}
 use Rattle.mentat_cmd.proofs.Weights.{light-print, light-call, light-call_flow, light-one, light-declare, light-block}
 use Rattle.mpl_mean.proofs.Truth.{both_true}
-use Rattle.mpl_mean.proofs.BothReadTokens.{mark_is}
+use Rattle.mpl_mean.proofs.OneTree.BothReadTokens.{mark_is}
 
 -- ---- lists
 

@@ -24,11 +24,11 @@ use Rattle.mpl_ast.specs.declared.statement.Statement.TheVariants as statement
 use Rattle.mpl_ast.specs.declared.token.Keyword.TheVariants as word
 use Rattle.mpl_ast.specs.declared.token.Mark.TheVariants as m
 use Rattle.mpl_ast.specs.declared.token.Token.{Token}
-use Rattle.mpl_mean.specs.FirstForm.{are_first, are_ints, gives_result, is_class, is_first_form, is_first_item, is_first_statement, is_int, is_int_result, is_main, is_one_result, is_regular}
-use Rattle.mpl_mean.specs.ProgramText.{all_of, declaration_text, formal_text, formals_text, item_text, kind_text, nothing_left, program_text, result_text, spells}
-use Rattle.mpl_mean.specs.Reading.{Reads, Rest, ◌>>◌, nothing, mark, mark_on, keyword, name, is_name, each, separated, after_first, optional}
-use Rattle.mpl_mean.specs.StatementText.{block_of, block_text, flow_text, statement_text, type_text}
-use Rattle.mpl_mean.specs.Weight.{is_light}
+use Rattle.mpl_mean.specs.FirstForms.FirstForm.{are_first, are_ints, gives_result, is_class, is_first_form, is_first_item, is_first_statement, is_int, is_int_result, is_main, is_one_result, is_regular}
+use Rattle.mpl_mean.specs.Text.ProgramText.{all_of, declaration_text, formal_text, formals_text, item_text, kind_text, nothing_left, program_text, result_text, spells}
+use Rattle.mpl_mean.specs.Text.Reading.{Reads, Rest, ◌>>◌, nothing, mark, mark_on, keyword, name, is_name, each, separated, after_first, optional}
+use Rattle.mpl_mean.specs.Text.StatementText.{block_of, block_text, flow_text, statement_text, type_text}
+use Rattle.mpl_mean.specs.Text.Weight.{is_light}
 use Rattle.mentat_cmd.specs.Parts.{is_light_block, is_light_declaration, is_light_item, is_light_statement}
 use Rattle.mentat_cmd.specs.Stages.{Stage, BeforeDeclaration, BeforeMentat, BeforeClassWord, BeforeClassName, BeforeItems, InClass, BehindClass, BeforeMember, BeforeFormals, InFormals, BeforeFormalType, BeforeFormal, BehindFormal, BeforeBody, BeforeRtf, BehindRtf, BehindResult, BeforeBodyEnd, BeforeMain, BeforeOpen, BeforeClose, BeforeBlock, BeforeOperand, BehindExpression, AtEnd, Refused, leads, stage_behind}
 use Rattle.mentat_cmd.specs.declared.expression.Role.TheVariants.{Returned}
@@ -45,7 +45,7 @@ use Rattle.mentat_cmd.proofs.Steps.{parts_read, token_taken, both_read}
 use Rattle.mentat_cmd.proofs.Weights.{light-rtf, light-block, light-member, light-class, light-main, light-program}
 use Rattle.mentat_cmd.proofs.Whole.{stays, led-all, stops-mark, led-flow, led-block}
 use Rattle.mpl_mean.proofs.Truth.{both_true, and_false}
-use Rattle.mpl_mean.proofs.BothRead.{if_read}
+use Rattle.mpl_mean.proofs.OneTree.BothRead.{if_read}
 
 -- ---- formals
 

@@ -5,7 +5,7 @@ use Rattle.mpl_ast.specs.declared.token.Mark.TheVariants as m
 use Rattle.mpl_ast.specs.declared.token.Token.{Token}
 use Rattle.mpl_ast.specs.declared.token.TokenKind.{TokenKind}
 use Rattle.mpl_ast.specs.declared.token.TokenKind.TheVariants as kind
-use Rattle.mpl_mean.specs.Reading.{is_keyword, is_mark}
+use Rattle.mpl_mean.specs.Text.Reading.{is_keyword, is_mark}
 
 abbrev pub is_any_number : TokenKind → Bool
 is_any_number (kind.Name text) = false

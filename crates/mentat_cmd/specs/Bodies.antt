@@ -20,27 +20,27 @@ use Rattle.mpl_ast.specs.declared.statement.Statement.{Statement, out-Statement}
 use Rattle.mpl_ast.specs.declared.statement.Statement.TheOpen.{Statement-F}
 use Rattle.mpl_ast.specs.declared.statement.TypeName.{TypeName}
 use Rattle.mpl_ast.specs.declared.statement.TypeName.TheVariants as type
-use Rattle.mpl_mean.specs.FirstForm.{is_int}
-use Rattle.mpl_mean.specs.Layout.{formals_of}
-use Rattle.mpl_mean.specs.Phrases.{Phrase, phrase_of, phrase_of_flow}
-use Rattle.mpl_mean.specs.Phrases as phrase
-use Rattle.mpl_mean.specs.SizeRules.{most_words_of_variables}
+use Rattle.mpl_mean.specs.FirstForms.FirstForm.{is_int}
+use Rattle.mpl_mean.specs.Meaning.Layout.{formals_of}
+use Rattle.mpl_mean.specs.TypeRules.Expr.{Expr, expr_of, expr_of_flow}
+use Rattle.mpl_mean.specs.TypeRules.Expr as expr
+use Rattle.mpl_mean.specs.TypeRules.SizeRules.{most_words_of_variables}
 use Rattle.mentat_cmd.specs.Scope.{Kind, ANumber, AnObject, Scope, no_variable, is_number, declare, bound}
 
 -- ---- expressions
 
 -- each variable in it is a number
-abbrev pub phrase_fits : Scope → Phrase → Bool
-phrase_fits scope (phrase.Number at) = true
-phrase_fits scope (phrase.Whole at (target.Variable place name)) = is_number (scope name.text)
-phrase_fits scope (phrase.Binary at phrase.Arithmetic left right) = phrase_fits scope left && phrase_fits scope right
-phrase_fits scope other = false
+abbrev pub expr_fits : Scope → Expr → Bool
+expr_fits scope (expr.Number at) = true
+expr_fits scope (expr.Whole at (target.Variable place name)) = is_number (scope name.text)
+expr_fits scope (expr.Binary at expr.Arithmetic left right) = expr_fits scope left && expr_fits scope right
+expr_fits scope other = false
 
 abbrev pub expression_fits : Scope → Expression → Bool
-expression_fits scope e = phrase_fits scope (phrase_of e)
+expression_fits scope e = expr_fits scope (expr_of e)
 
 abbrev pub flow_fits : Scope → Flow → Bool
-flow_fits scope f = phrase_fits scope (phrase_of_flow f)
+flow_fits scope f = expr_fits scope (expr_of_flow f)
 
 -- ---- calls
 

@@ -13,10 +13,10 @@ use Rattle.mpl_ast.specs.declared.statement.Declarator.{Declarator}
 use Rattle.mpl_ast.specs.declared.statement.Local.{Local}
 use Rattle.mpl_ast.specs.declared.statement.Statement.{Statement}
 use Rattle.mpl_ast.specs.declared.token.Mark.TheVariants as m
-use Rattle.mpl_mean.specs.ProgramText.{formals_text}
-use Rattle.mpl_mean.specs.Reading.{Reads, ◌>>◌, mark, optional, separated_if_any}
-use Rattle.mpl_mean.specs.StatementText.{flow_text}
-use Rattle.mpl_mean.specs.Weight.{block_weighs, call_weighs, declaration_weighs, declarator_weighs, expression_weighs, flow_weighs, item_weighs, local_weighs, statement_weighs}
+use Rattle.mpl_mean.specs.Text.ProgramText.{formals_text}
+use Rattle.mpl_mean.specs.Text.Reading.{Reads, ◌>>◌, mark, optional, separated_if_any}
+use Rattle.mpl_mean.specs.Text.StatementText.{flow_text}
+use Rattle.mpl_mean.specs.Text.Weight.{block_weighs, call_weighs, declaration_weighs, declarator_weighs, expression_weighs, flow_weighs, item_weighs, local_weighs, statement_weighs}
 
 -- ---- the tokens
 

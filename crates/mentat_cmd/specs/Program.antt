@@ -2,12 +2,12 @@
 use Rattle.std.specs.Prelude.{◌≡◌, ℕ, ◌≤◌, true, List, [], length, Result, Ok, Err}
 use Rattle.mpl_ast.specs.declared.program.Program.{Program}
 use Rattle.mpl_ast.specs.declared.token.Token.{Token}
-use Rattle.mpl_mean.specs.FirstForm.{is_first_form}
-use Rattle.mpl_mean.specs.DirectRun.{direct_run}
-use Rattle.mpl_mean.specs.Lexemes.{tokens_of}
-use Rattle.mpl_mean.specs.ProgramText.{spells}
-use Rattle.mpl_mean.specs.Rules.{is_typed}
-use Rattle.mpl_mean.specs.Weight.{is_light}
+use Rattle.mpl_mean.specs.FirstForms.FirstForm.{is_first_form}
+use Rattle.mpl_mean.specs.Meaning.DirectRun.{direct_run}
+use Rattle.mpl_mean.specs.Text.Lexemes.{tokens_of}
+use Rattle.mpl_mean.specs.Text.ProgramText.{spells}
+use Rattle.mpl_mean.specs.TypeRules.Rules.{is_typed}
+use Rattle.mpl_mean.specs.Text.Weight.{is_light}
 use Rattle.mpl_value.specs.declared.body.Yield.{Yield}
 use Rattle.mentat_cmd.specs.declared.run.Refusal.{Refusal}
 use Rattle.mentat_cmd.specs.declared.run.Refusal.TheVariants as refusal

@@ -2,7 +2,7 @@
 use Rattle.std.specs.Prelude.{ℕ, ◌+◌, ◌*◌, Bool, false, ◌&&◌, ◌==◌, List, [], ◌∷◌, length}
 use Rattle.mpl_ast.specs.declared.place.At.{At}
 use Rattle.mpl_ast.specs.declared.token.Token.{Token}
-use Rattle.mpl_mean.specs.Reading.{Rest}
+use Rattle.mpl_mean.specs.Text.Reading.{Rest}
 use Rattle.mentat_cmd.specs.declared.reader.Reader.{Reader}
 use Rattle.mentat_cmd.specs.declared.reader.Start.{Start}
 

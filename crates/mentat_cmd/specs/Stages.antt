@@ -4,7 +4,7 @@ use Rattle.mpl_ast.specs.declared.token.Keyword.TheVariants as word
 use Rattle.mpl_ast.specs.declared.token.Mark.TheVariants as m
 use Rattle.mpl_ast.specs.declared.token.Token.{Token}
 use Rattle.mpl_ast.specs.declared.token.TokenKind.{TokenKind}
-use Rattle.mpl_mean.specs.Reading.{is_mark, is_keyword, is_name}
+use Rattle.mpl_mean.specs.Text.Reading.{is_mark, is_keyword, is_name}
 use Rattle.mentat_cmd.specs.Ahead.{is_any_name, is_operand, is_operator}
 use Rattle.mentat_cmd.specs.declared.expression.Role.{Role}
 use Rattle.mentat_cmd.specs.declared.expression.Role.TheVariants.{Printed, Passed, Returned}

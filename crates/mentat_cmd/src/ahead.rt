@@ -2,7 +2,7 @@
 
 ghost use Rattle.std.specs.Prelude.{◌≡◌, ◌≤◌, length};
 ghost use Rattle.mentat_cmd.specs.Ahead as spec;
-ghost use Rattle.mpl_mean.specs.Reading as reading;
+ghost use Rattle.mpl_mean.specs.Text.Reading as reading;
 
 use mpl_ast::token::{Keyword, Mark, Token, TokenKind};
 

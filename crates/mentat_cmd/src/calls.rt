@@ -31,7 +31,7 @@ fn call_fits(variables: &Variables, call: &Call) -> bool
         Call::OnTarget(_, target, member, arguments) => {
             let arguments = arguments.as_slice();
             target_can_call(variables, target, member.text.as_slice(), arguments.len())
-                && arguments_fit(variables, arguments)
+                && arguments_agree(variables, arguments)
         }
         Call::OnOwn(..) => false,
     }
@@ -58,7 +58,7 @@ fn takes(items: &[Item], member: &[u8], count: usize) -> bool
     }
 }
 
-fn arguments_fit(variables: &Variables, arguments: &[Flow]) -> bool
+fn arguments_agree(variables: &Variables, arguments: &[Flow]) -> bool
     ensures { result ≡ list_all (flow_fits (seen variables.now)) arguments.now }
 {
     arguments.iter().all(|value| flow_fits(variables, value))

@@ -1,8 +1,8 @@
 //! The type rules of the first form.
 
 ghost use Rattle.std.specs.Prelude.{◌≡◌, true, IfOk};
-ghost use Rattle.mpl_mean.specs.FirstForm.{is_first_form};
-ghost use Rattle.mpl_mean.specs.Rules as rules;
+ghost use Rattle.mpl_mean.specs.FirstForms.FirstForm.{is_first_form};
+ghost use Rattle.mpl_mean.specs.TypeRules.Rules as rules;
 ghost use Rattle.mentat_cmd.specs.Typed.{program_fits};
 
 use crate::bodies::bodies_fit;

@@ -5,10 +5,10 @@ ghost use Rattle.std.specs.Prelude.{◌≡◌, ◌+◌, ◌<◌, ◌≤◌, ◌^
 ghost use Rattle.mpl_ast.specs.declared.class.Formal.{Formal};
 ghost use Rattle.mpl_ast.specs.declared.token.Keyword.TheVariants as word;
 ghost use Rattle.mpl_ast.specs.declared.token.Mark.TheVariants as mark;
-ghost use Rattle.mpl_mean.specs.FirstForm.{are_ints, gives_result, is_class, is_first_item, is_int, is_int_result, is_one_result, is_regular};
-ghost use Rattle.mpl_mean.specs.ProgramText.{declaration_text, formal_text, formals_text, item_text, kind_text, result_text};
-ghost use Rattle.mpl_mean.specs.Reading.{is_mark, is_keyword, each, separated};
-ghost use Rattle.mpl_mean.specs.StatementText.{block_text, statement_text, type_text};
+ghost use Rattle.mpl_mean.specs.FirstForms.FirstForm.{are_ints, gives_result, is_class, is_first_item, is_int, is_int_result, is_one_result, is_regular};
+ghost use Rattle.mpl_mean.specs.Text.ProgramText.{declaration_text, formal_text, formals_text, item_text, kind_text, result_text};
+ghost use Rattle.mpl_mean.specs.Text.Reading.{is_mark, is_keyword, each, separated};
+ghost use Rattle.mpl_mean.specs.Text.StatementText.{block_text, statement_text, type_text};
 ghost use Rattle.mentat_cmd.specs.Ahead.{first_is};
 ghost use Rattle.mentat_cmd.specs.Parts.{formals_to_end, is_light_block, is_light_declaration, is_light_item, is_light_statement};
 ghost use Rattle.mentat_cmd.specs.Reader.{rest_of, numbered};

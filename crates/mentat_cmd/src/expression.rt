@@ -1,11 +1,11 @@
 //! The expressions of the first form: numbers and names with `+`, `-` and `*` between.
 
 ghost use Rattle.std.specs.Prelude.{◌≡◌, ◌+◌, ◌<◌, ◌≤◌, ◌^◌, true, false, IfOk, OnOk, Err, Some, length};
-ghost use Rattle.mpl_mean.specs.ExpressionText.{expression_text};
-ghost use Rattle.mpl_mean.specs.FirstForm.{is_first_expression, is_first_flow, is_first_sum, is_first_term, is_first_unary, is_first_primary};
-ghost use Rattle.mpl_mean.specs.StatementText.{flow_text};
+ghost use Rattle.mpl_mean.specs.Text.ExpressionText.{expression_text};
+ghost use Rattle.mpl_mean.specs.FirstForms.FirstForm.{is_first_expression, is_first_flow, is_first_sum, is_first_term, is_first_unary, is_first_primary};
+ghost use Rattle.mpl_mean.specs.Text.StatementText.{flow_text};
 ghost use Rattle.mentat_cmd.specs.Ahead.{first_is, is_any_name, is_any_number, is_operand, sums_ahead, sums_behind, products_ahead, products_behind, tail};
-ghost use Rattle.mpl_mean.specs.ExpressionLevels.{primary_text, unary_text, term_text, sum_text};
+ghost use Rattle.mpl_mean.specs.FirstForms.ExpressionLevels.{primary_text, unary_text, term_text, sum_text};
 ghost use Rattle.mentat_cmd.specs.Parts.{is_light_expression, is_light_flow};
 ghost use Rattle.mentat_cmd.specs.Reader.{rest_of, numbered};
 ghost use Rattle.mentat_cmd.specs.Stages as stage;

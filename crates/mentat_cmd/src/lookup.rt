@@ -5,7 +5,7 @@ ghost use Rattle.mpl_ast.specs.declared.class.Item.{Item};
 ghost use Rattle.mpl_ast.specs.declared.program.Declaration.{Declaration};
 ghost use Rattle.std.specs.Option.{option_copied};
 ghost use Rattle.std.specs.Str.{bytes_eq};
-ghost use Rattle.mpl_mean.specs.Layout.{formals_of};
+ghost use Rattle.mpl_mean.specs.Meaning.Layout.{formals_of};
 ghost use Rattle.mentat_cmd.specs.Bodies.{class_items, items_of_type, member_formals};
 
 use mpl_ast::class::{Formal, Formals, Item};

@@ -3,7 +3,7 @@
 ghost use Rattle.std.specs.Prelude.{◌≡◌, List, ℕ, map};
 ghost use Rattle.std.specs.List.{list_all, list_any};
 ghost use Rattle.std.specs.Str.{bytes_eq};
-ghost use Rattle.mpl_mean.specs.Scopes as scope;
+ghost use Rattle.mpl_mean.specs.TypeRules.Scopes as scope;
 ghost use Rattle.mentat_cmd.specs.Outline.{are_distinct, declaration_fits, formals_fit, is_new, member_fits, members_fit, name_of_declaration, name_of_formal, name_of_item, outline_fits};
 
 use crate::lookup::{formals_of, is_same};

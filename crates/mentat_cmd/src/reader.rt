@@ -3,9 +3,9 @@
 ghost use Rattle.std.specs.Prelude.{◌≡◌, ◌+◌, ◌<◌, ◌^◌, ◌∷◌, true, false, length, IfOk, OnOk, Err, Some};
 ghost use Rattle.mentat_cmd.specs.Ahead.{first_is, is_any_name, tail};
 ghost use Rattle.mentat_cmd.specs.Reader.{rest_of, starts, at_of};
-ghost use Rattle.mpl_mean.specs.ExpressionText.{target_text};
-ghost use Rattle.mpl_mean.specs.FirstForm.{is_variable};
-ghost use Rattle.mpl_mean.specs.Reading as reading;
+ghost use Rattle.mpl_mean.specs.Text.ExpressionText.{target_text};
+ghost use Rattle.mpl_mean.specs.FirstForms.FirstForm.{is_variable};
+ghost use Rattle.mpl_mean.specs.Text.Reading as reading;
 
 use crate::ahead::{sees_any_name, sees_keyword, sees_mark};
 use crate::parser::ParseFault;

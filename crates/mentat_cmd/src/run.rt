@@ -1,6 +1,6 @@
 ghost use Rattle.std.specs.Prelude.{◌≡◌, ◌≤◌, [], length};
 ghost use Rattle.mentat_cmd.specs.Program.{Ran};
-ghost use Rattle.mpl_mean.specs.DirectRun.{main_start};
+ghost use Rattle.mpl_mean.specs.Meaning.DirectRun.{main_start};
 
 use crate::check::is_typed;
 use crate::parser::{ParseFault, parse};

@@ -2,11 +2,11 @@
 
 ghost use Rattle.std.specs.Prelude.{◌≡◌};
 ghost use Rattle.std.specs.List.{list_all};
-ghost use Rattle.mentat_cmd.specs.Bodies.{expression_fits, phrase_fits};
-ghost use Rattle.mpl_mean.specs.ExpressionLevels.{phrase_of_conjunction, phrase_of_equality, phrase_of_primary, phrase_of_relation, phrase_of_sum, phrase_of_term, phrase_of_unary};
+ghost use Rattle.mentat_cmd.specs.Bodies.{expression_fits, expr_fits};
+ghost use Rattle.mpl_mean.specs.FirstForms.ExpressionLevels.{expr_of_conjunction, expr_of_equality, expr_of_primary, expr_of_relation, expr_of_sum, expr_of_term, expr_of_unary};
 ghost use Rattle.mentat_cmd.specs.Scope.{is_number};
 ghost use Rattle.mentat_cmd.specs.Variables.{seen};
-ghost use Rattle.mpl_mean.specs.Phrases.{phrase_of_place};
+ghost use Rattle.mpl_mean.specs.TypeRules.Expr.{expr_of_place};
 
 use crate::scope::{Variable, Variables};
 use mpl_ast::expression::{
@@ -29,7 +29,7 @@ pub fn expression_fits(variables: &Variables, node: &Expression) -> bool
 }
 
 fn conjunction_fits(variables: &Variables, node: &Conjunction) -> bool
-    ensures { result ≡ phrase_fits (seen variables.now) (phrase_of_conjunction node.now) }
+    ensures { result ≡ expr_fits (seen variables.now) (expr_of_conjunction node.now) }
 {
     match node {
         Conjunction::OneEquality(_, inner) => equality_fits(variables, inner),
@@ -38,7 +38,7 @@ fn conjunction_fits(variables: &Variables, node: &Conjunction) -> bool
 }
 
 fn equality_fits(variables: &Variables, node: &Equality) -> bool
-    ensures { result ≡ phrase_fits (seen variables.now) (phrase_of_equality node.now) }
+    ensures { result ≡ expr_fits (seen variables.now) (expr_of_equality node.now) }
 {
     match node {
         Equality::OneRelation(_, inner) => relation_fits(variables, inner),
@@ -47,7 +47,7 @@ fn equality_fits(variables: &Variables, node: &Equality) -> bool
 }
 
 fn relation_fits(variables: &Variables, node: &Relation) -> bool
-    ensures { result ≡ phrase_fits (seen variables.now) (phrase_of_relation node.now) }
+    ensures { result ≡ expr_fits (seen variables.now) (expr_of_relation node.now) }
 {
     match node {
         Relation::OneSum(_, inner) => sum_fits(variables, inner),
@@ -56,7 +56,7 @@ fn relation_fits(variables: &Variables, node: &Relation) -> bool
 }
 
 fn sum_fits(variables: &Variables, node: &Sum) -> bool
-    ensures { result ≡ phrase_fits (seen variables.now) (phrase_of_sum node.now) }
+    ensures { result ≡ expr_fits (seen variables.now) (expr_of_sum node.now) }
 {
     match node {
         Sum::OneTerm(_, inner) => term_fits(variables, inner),
@@ -67,18 +67,18 @@ fn sum_fits(variables: &Variables, node: &Sum) -> bool
 }
 
 fn term_fits(variables: &Variables, node: &Term) -> bool
-    ensures { result ≡ phrase_fits (seen variables.now) (phrase_of_term node.now) }
+    ensures { result ≡ expr_fits (seen variables.now) (expr_of_term node.now) }
 {
     match node {
-        Term::OneUnary(_, inner) => unary_fits(variables, inner),
+        Term::OneUnary(_, inner) => unary_agrees(variables, inner),
         Term::Multiply(_, _, left, _, right) => {
-            term_fits(variables, left.get()) && unary_fits(variables, right)
+            term_fits(variables, left.get()) && unary_agrees(variables, right)
         }
     }
 }
 
-fn unary_fits(variables: &Variables, node: &Unary) -> bool
-    ensures { result ≡ phrase_fits (seen variables.now) (phrase_of_unary node.now) }
+fn unary_agrees(variables: &Variables, node: &Unary) -> bool
+    ensures { result ≡ expr_fits (seen variables.now) (expr_of_unary node.now) }
 {
     match node {
         Unary::OnePrimary(_, inner) => primary_fits(variables, inner),
@@ -87,7 +87,7 @@ fn unary_fits(variables: &Variables, node: &Unary) -> bool
 }
 
 fn primary_fits(variables: &Variables, node: &Primary) -> bool
-    ensures { result ≡ phrase_fits (seen variables.now) (phrase_of_primary node.now) }
+    ensures { result ≡ expr_fits (seen variables.now) (expr_of_primary node.now) }
 {
     match node {
         Primary::Number(..) => true,
@@ -102,7 +102,7 @@ fn primary_fits(variables: &Variables, node: &Primary) -> bool
 }
 
 fn place_fits(variables: &Variables, node: &Place) -> bool
-    ensures { result ≡ phrase_fits (seen variables.now) (phrase_of_place node.now) }
+    ensures { result ≡ expr_fits (seen variables.now) (expr_of_place node.now) }
 {
     match node {
         Place::Whole(_, Target::Variable(_, name)) => is_number(variables, name.text.as_slice()),

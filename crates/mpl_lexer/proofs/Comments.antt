@@ -3,7 +3,7 @@ use Rattle.std.proofs.Common.{◌≡◌, ℕ, suc, ◌+◌, ◌<◌, List, [], �
 use Rattle.std.specs.Prelude.{zero}
 use Rattle.std.proofs.lemmas.Bool.Decides.{nat_tests}
 use native.Mathlib.Numerals.{unary_clauses}
-use Rattle.mpl_mean.specs.Lexemes.{comment_rest}
+use Rattle.mpl_mean.specs.Text.Lexemes.{comment_rest}
 
 -- no `*/` stands at k
 abbrev pub NoEnd : List ℕ → ℕ → Type 0

@@ -4,7 +4,7 @@ use Rattle.std.specs.List.{prefix_len, AllPass}
 use Rattle.std.proofs.lemmas.List.Sums.{fold-append, fold_more, prefix_len_passes}
 use Rattle.std.proofs.lemmas.List.{take-append-drop, length-take, get_or-take}
 use Rattle.std.proofs.lemmas.Bool.{le-ltb}
-use Rattle.mpl_mean.specs.Lexemes.{value_of, is_digit}
+use Rattle.mpl_mean.specs.Text.Lexemes.{value_of, is_digit}
 use Rattle.mpl_lexer.specs.Lexing.{word_of}
 
 abbrev with_digit : ℕ → ℕ → ℕ

@@ -14,8 +14,8 @@ use Rattle.mpl_ast.specs.declared.token.Mark.{Mark}
 use Rattle.mpl_ast.specs.declared.token.Token.{Token}
 use Rattle.mpl_ast.specs.declared.token.TokenKind.{TokenKind}
 use Rattle.mpl_ast.specs.declared.token.TokenKind.TheVariants as kind
-use Rattle.mpl_mean.specs.TokenTable.{keyword_spelling, keywords, mark_spelling, marks}
-use Rattle.mpl_mean.specs.Lexemes.{Lexeme, Gap, Word, Fault, WideNumber, lexeme, word_kind, is_blank, is_letter, is_digit, continues_name, value_of, comment_lexeme, number_lexeme, mark_lexeme, tokens_from, tokens_of, with_token, line_after}
+use Rattle.mpl_mean.specs.Text.TokenTable.{keyword_spelling, keywords, mark_spelling, marks}
+use Rattle.mpl_mean.specs.Text.Lexemes.{Lexeme, Gap, Word, Fault, WideNumber, lexeme, word_kind, is_blank, is_letter, is_digit, continues_name, value_of, comment_lexeme, number_lexeme, mark_lexeme, tokens_from, tokens_of, with_token, line_after}
 use Rattle.mpl_lexer.specs.Spans.{SpansRise, IsSpelled, StandsIn, AreSpansOf}
 use Rattle.mpl_lexer.proofs.Words.{IsWithin, lexeme_within, find_passes}
 use Rattle.mpl_lexer.proofs.Steps.{Read, after, token_at}

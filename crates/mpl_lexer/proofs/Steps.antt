@@ -5,7 +5,7 @@ use Rattle.std.proofs.lemmas.List.Sums.{sum_by-cons, count_by-le-length}
 use Rattle.std.proofs.lemmas.List.{length-take, length-drop, drop-drop}
 use Rattle.mpl_ast.specs.declared.token.Token.{Token}
 use Rattle.mpl_ast.specs.declared.token.TokenKind.{TokenKind}
-use Rattle.mpl_mean.specs.Lexemes.{Lexeme, Gap, Word, Fault, LexicalFault, BadByte, WideNumber, OpenComment, tokens_from, tokens_of, with_token, is_line_feed, line_after}
+use Rattle.mpl_mean.specs.Text.Lexemes.{Lexeme, Gap, Word, Fault, LexicalFault, BadByte, WideNumber, OpenComment, tokens_from, tokens_of, with_token, is_line_feed, line_after}
 use Rattle.mpl_lexer.specs.declared.lexer.LexFault.{LexFault}
 use Rattle.mpl_lexer.specs.declared.lexer.LexFault.TheVariants as faults
 use Rattle.mpl_lexer.specs.Lexing.{lexeme_of, IsFault, IsFaultAt}

@@ -10,8 +10,8 @@ use Rattle.std.proofs.lemmas.Slice.Eq.{bytes_eq-Decides}
 use Rattle.mpl_ast.specs.declared.token.Mark.{Mark}
 use Rattle.mpl_ast.specs.declared.token.TokenKind.{TokenKind}
 use Rattle.mpl_ast.specs.declared.token.TokenKind.TheVariants as kind
-use Rattle.mpl_mean.specs.TokenTable.{mark_spelling, marks}
-use Rattle.mpl_mean.specs.Lexemes.{Lexeme, Gap, Word, Fault, is_line_feed, is_blank, is_letter, is_digit, continues_name, comment_rest, comment_lexeme, mark_lexeme, number_lexeme, word_kind, value_of, WideNumber}
+use Rattle.mpl_mean.specs.Text.TokenTable.{mark_spelling, marks}
+use Rattle.mpl_mean.specs.Text.Lexemes.{Lexeme, Gap, Word, Fault, is_line_feed, is_blank, is_letter, is_digit, continues_name, comment_rest, comment_lexeme, mark_lexeme, number_lexeme, word_kind, value_of, WideNumber}
 use Rattle.mpl_lexer.specs.declared.lexer.LexFault.{LexFault}
 use Rattle.mpl_lexer.specs.declared.lexeme.Lexeme.{Lexeme as Found}
 use Rattle.mpl_lexer.specs.Lexing.{lexeme_of, IsLexeme, IsFound}

@@ -2,7 +2,7 @@
 use Rattle.std.specs.Prelude.{◌≡◌, ℕ, ◌^◌, List, [], ◌∷◌, Option, Some, None, Result, Ok, Err, if◌then◌else◌, nat_lt, ℤ, pos}
 use Rattle.mpl_ast.specs.declared.token.Token.{Token}
 use Rattle.mpl_ast.specs.declared.token.TokenKind.{TokenKind}
-use Rattle.mpl_mean.specs.Lexemes.{LexicalFault, BadByte, WideNumber, OpenComment, Lexeme, Gap, Word, Fault, lexeme, value_of}
+use Rattle.mpl_mean.specs.Text.Lexemes.{LexicalFault, BadByte, WideNumber, OpenComment, Lexeme, Gap, Word, Fault, lexeme, value_of}
 use Rattle.mpl_lexer.specs.declared.lexer.LexFault.{LexFault}
 use Rattle.mpl_lexer.specs.declared.lexer.LexFault.TheVariants as fault
 use Rattle.mpl_lexer.specs.declared.lexeme.Lexeme.{Lexeme as Found}

@@ -3,8 +3,8 @@ use Rattle.std.specs.Prelude.{◌≡◌, ℕ, ◌-◌, ◌<◌, ◌≤◌, List,
 use Rattle.mpl_ast.specs.declared.token.Token.{Token}
 use Rattle.mpl_ast.specs.declared.token.TokenKind.{TokenKind}
 use Rattle.mpl_ast.specs.declared.token.TokenKind.TheVariants as kind
-use Rattle.mpl_mean.specs.TokenTable.{keyword_spelling, mark_spelling}
-use Rattle.mpl_mean.specs.Lexemes.{value_of}
+use Rattle.mpl_mean.specs.Text.TokenTable.{keyword_spelling, mark_spelling}
+use Rattle.mpl_mean.specs.Text.Lexemes.{value_of}
 
 -- the tokens begin at a place or behind it, each has at least one byte, and none begins before the one before it ends
 abbrev pub SpansRise : ℕ → List Token → Type 0

@@ -1,5 +1,5 @@
 ghost use Rattle.std.specs.Prelude.{◌≡◌};
-ghost use Rattle.mpl_mean.specs.Lexemes.{is_blank, is_digit, is_letter, continues_name};
+ghost use Rattle.mpl_mean.specs.Text.Lexemes.{is_blank, is_digit, is_letter, continues_name};
 
 pub(crate) fn is_blank(byte: u8) -> bool
     ensures { result ≡ is_blank byte }

@@ -1,6 +1,6 @@
 ghost use Rattle.std.specs.Prelude.{◌≡◌, ℕ, List, Ok};
 ghost use Rattle.mpl_ast.specs.declared.token.Token.{Token};
-ghost use Rattle.mpl_mean.specs.Lexemes.{tokens_of};
+ghost use Rattle.mpl_mean.specs.Text.Lexemes.{tokens_of};
 ghost use Rattle.mpl_lexer.specs.Spans.{AreSpansOf};
 
 /// What holds of the tokens of each source. It does nothing.

@@ -1,7 +1,7 @@
 ghost use Rattle.std.specs.Prelude.{◌≡◌, ◌+◌, ◌<◌, ◌≤◌, length, drop, take_while, find, nat_eq, IfOk};
 ghost use Rattle.std.specs.List.{starts_with};
-ghost use Rattle.mpl_mean.specs.TokenTable.{marks, mark_spelling};
-ghost use Rattle.mpl_mean.specs.Lexemes.{Word, comment_lexeme, comment_rest, number_lexeme, mark_lexeme, word_kind, is_digit, continues_name};
+ghost use Rattle.mpl_mean.specs.Text.TokenTable.{marks, mark_spelling};
+ghost use Rattle.mpl_mean.specs.Text.Lexemes.{Word, comment_lexeme, comment_rest, number_lexeme, mark_lexeme, word_kind, is_digit, continues_name};
 ghost use Rattle.mpl_lexer.specs.Lexing.{IsFound, lexeme_of};
 
 use crate::lexer::LexFault;

@@ -1,5 +1,5 @@
 ghost use Rattle.std.specs.Prelude.{◌≡◌, ◌≤◌, length, IfOk, IfErr, Ok};
-ghost use Rattle.mpl_mean.specs.Lexemes.{tokens_of};
+ghost use Rattle.mpl_mean.specs.Text.Lexemes.{tokens_of};
 ghost use Rattle.mpl_lexer.specs.Lexing.{IsFault};
 
 use crate::lexeme::{Lexeme, lexeme_at};

@@ -1,6 +1,6 @@
 ghost use Rattle.std.specs.Prelude.{◌≡◌, ◌≤◌, length, not, count_by, IfSome};
 ghost use Rattle.std.specs.List.{prefix_len, AllPass};
-ghost use Rattle.mpl_mean.specs.Lexemes.{is_line_feed, is_digit, continues_name, comment_rest};
+ghost use Rattle.mpl_mean.specs.Text.Lexemes.{is_line_feed, is_digit, continues_name, comment_rest};
 ghost use Rattle.mpl_lexer.specs.Lexing.{word_of};
 
 use crate::classes;

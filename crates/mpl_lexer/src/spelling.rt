@@ -1,7 +1,7 @@
 ghost use Rattle.std.specs.Prelude.{◌≡◌, find, nat_eq};
 ghost use Rattle.std.specs.List.{starts_with};
 ghost use Rattle.std.specs.Str.{bytes_eq};
-ghost use Rattle.mpl_mean.specs.TokenTable.{keywords, keyword_spelling, marks, mark_spelling};
+ghost use Rattle.mpl_mean.specs.Text.TokenTable.{keywords, keyword_spelling, marks, mark_spelling};
 
 use mpl_ast::token::{Keyword, Mark};
 

@@ -2,9 +2,9 @@
 use Rattle.std.specs.Prelude.{◌≡◌, ◌≤◌, ℕ, true, List, length}
 use Rattle.mpl_ast.specs.declared.program.Program.{Program}
 use Rattle.mpl_ast.specs.declared.token.Token.{Token}
-use Rattle.mpl_mean.specs.ProgramText.{spells}
-use Rattle.mpl_mean.specs.Rules.{is_typed}
-use Rattle.mpl_mean.specs.Weight.{is_light}
+use Rattle.mpl_mean.specs.Text.ProgramText.{spells}
+use Rattle.mpl_mean.specs.TypeRules.Rules.{is_typed}
+use Rattle.mpl_mean.specs.Text.Weight.{is_light}
 
 -- the greatest number of tokens
 abbrev pub token_limit : ℕ

@@ -8,14 +8,14 @@ ghost use Rattle.mpl_value.specs.declared.body.BodyResult.TheVariants as given;
 ghost use Rattle.mpl_value.specs.declared.known.Known.{Known};
 ghost use Rattle.mpl_value.specs.declared.known.Known.TheVariants as known;
 ghost use Rattle.mpl_value.specs.declared.known.TrapKind.TheVariants.{DivZero, Index, NoInput, NoReply, Overflow, Twice, Unbound};
-ghost use Rattle.mpl_mean.specs.BodyMeaning.{yield_of};
-ghost use Rattle.mpl_mean.specs.CallPrograms.{fib_of_ten, forced_division, goes_on_after_its_result, leftmost_trap_wins, one_result_twice, sum_of_squares, unforced_division};
-ghost use Rattle.mpl_mean.specs.DirectRun.{direct_run, main_start};
-ghost use Rattle.mpl_mean.specs.LoopPrograms.{endless, products_of_input};
-ghost use Rattle.mpl_mean.specs.OrderPrograms.{function_in_function, inner_names, left_decides, parentheses_force, quotient_to_zero, receiver_first, right_side_first, variable_before_index};
-ghost use Rattle.mpl_mean.specs.ReplyPrograms.{gets_and_puts, passes_it_back};
-ghost use Rattle.mpl_mean.specs.TrapPrograms.{asks_for_input, function_without_result, index_outside, no_object, no_result, second_result, too_large};
-ghost use Rattle.mpl_mean.specs.WorkedYields.{gives, member_start, on_first, regular_start, trapped, traps, yields, yields_with};
+ghost use Rattle.mpl_mean.specs.Meaning.BodyMeaning.{yield_of};
+ghost use Rattle.mpl_mean.specs.SmallPrograms.CallPrograms.{fib_of_ten, forced_division, goes_on_after_its_result, leftmost_trap_wins, one_result_twice, sum_of_squares, unforced_division};
+ghost use Rattle.mpl_mean.specs.Meaning.DirectRun.{direct_run, main_start};
+ghost use Rattle.mpl_mean.specs.SmallPrograms.LoopPrograms.{endless, products_of_input};
+ghost use Rattle.mpl_mean.specs.SmallPrograms.OrderPrograms.{function_in_function, inner_names, left_decides, parentheses_force, quotient_to_zero, receiver_first, right_side_first, variable_before_index};
+ghost use Rattle.mpl_mean.specs.SmallPrograms.ReplyPrograms.{gets_and_puts, passes_it_back};
+ghost use Rattle.mpl_mean.specs.SmallPrograms.TrapPrograms.{asks_for_input, function_without_result, index_outside, no_object, no_result, second_result, too_large};
+ghost use Rattle.mpl_mean.specs.SmallPrograms.WorkedYields.{gives, member_start, on_first, regular_start, trapped, traps, yields, yields_with};
 
 /// Calls on regular objects: their results, and the turns that they take.
 pub fn calls_have_their_yields()

@@ -1,1 +1,5 @@
 pub mod Arithmetic
+pub mod Words
+pub mod CallAnswers
+pub mod Results
+pub mod Growing

@@ -5,13 +5,13 @@ use Rattle.mpl_ast.specs.declared.class.Formal.{Formal}
 use Rattle.mpl_ast.specs.declared.program.Declaration.{Declaration}
 use Rattle.mpl_ast.specs.declared.statement.TypeName.{TypeName}
 use Rattle.mpl_ast.specs.declared.statement.TypeName.TheVariants as type
-use Rattle.mpl_mean.specs.BodyMeaning.{formals_holding}
-use Rattle.mpl_mean.specs.FirstForm.{is_int}
-use Rattle.mpl_mean.specs.CallMeaning.{known_words, leftmost_trap}
-use Rattle.mpl_mean.specs.Layout.{words_of}
-use Rattle.mpl_mean.specs.PlaceMeaning.{is_bool}
-use Rattle.mpl_mean.specs.Store.{words_at}
-use Rattle.mpl_mean.specs.Store as mean
+use Rattle.mpl_mean.specs.Meaning.BodyMeaning.{formals_holding}
+use Rattle.mpl_mean.specs.FirstForms.FirstForm.{is_int}
+use Rattle.mpl_value.specs.CallAnswers.{known_words, leftmost_trap}
+use Rattle.mpl_mean.specs.Meaning.Layout.{words_of}
+use Rattle.mpl_mean.specs.Meaning.PlaceMeaning.{is_bool}
+use Rattle.mpl_value.specs.Words.{words_at}
+use Rattle.mpl_mean.specs.Meaning.Store as mean
 use Rattle.mpl_walk.specs.declared.held.Held.{Held}
 use Rattle.mpl_walk.specs.declared.held.Held.TheVariants as held
 use Rattle.mpl_walk.specs.declared.held.Variable.{Variable}

@@ -14,15 +14,16 @@ use Rattle.mpl_value.specs.declared.body.BodyResult.TheVariants as result
 use Rattle.mpl_value.specs.declared.known.Known.{Known}
 use Rattle.mpl_value.specs.declared.known.Known.TheVariants as known
 use Rattle.mpl_value.specs.declared.known.Trap.{Trap}
-use Rattle.mpl_mean.specs.BodyMeaning.{back_with, formals_holding, member_end, regular_body, result_at_end, store_of, store_with}
-use Rattle.mpl_mean.specs.FirstForm as first
-use Rattle.mpl_mean.specs.FirstForm.{is_one_result}
-use Rattle.mpl_mean.specs.CallMeaning.{answer, any_unknown, call_of_member, call_on, class_of_spot, known_words, leftmost_trap, passes, regular_call, unless_trapped}
-use Rattle.mpl_mean.specs.Context.{Context}
-use Rattle.mpl_mean.specs.Layout.{Class, Member, Part, class_of_type, member_named, members_from, part_named}
-use Rattle.mpl_mean.specs.PlaceMeaning.{spot_of_name, spot_of_part}
-use Rattle.mpl_mean.specs.StatementMeaning.{does, gives_result}
-use Rattle.mpl_mean.specs.Store.{Store, Outcome, Goes, Ends, Doing, all_of, and_then, give, in_turn, spend, variable_named, waits, Variable as Meant}
+use Rattle.mpl_mean.specs.Meaning.BodyMeaning.{back_with, formals_holding, member_end, regular_body, result_at_end, store_of, store_with}
+use Rattle.mpl_mean.specs.FirstForms.FirstForm as first
+use Rattle.mpl_mean.specs.FirstForms.FirstForm.{is_one_result}
+use Rattle.mpl_mean.specs.Meaning.CallMeaning.{answer, call_of_member, call_on, class_of_location, passes, regular_call, unless_trapped}
+use Rattle.mpl_value.specs.CallAnswers.{any_unknown, known_words, leftmost_trap}
+use Rattle.mpl_mean.specs.Meaning.Context.{Context}
+use Rattle.mpl_mean.specs.Meaning.Layout.{Class, Member, Part, class_of_type, member_named, members_from, part_named}
+use Rattle.mpl_mean.specs.Meaning.PlaceMeaning.{location_of_name, location_of_part}
+use Rattle.mpl_mean.specs.Meaning.StatementMeaning.{does, gives_result}
+use Rattle.mpl_mean.specs.Meaning.Store.{Store, Outcome, Goes, Ends, Step, all_of, and_then, pure, in_turn, spend, variable_named, waits, Variable as Meant}
 use Rattle.mpl_walk.specs.declared.held.Held.{Held}
 use Rattle.mpl_walk.specs.declared.held.Held.TheVariants as held
 use Rattle.mpl_walk.specs.declared.held.Variable.{Variable}
@@ -34,41 +35,41 @@ use Rattle.mpl_walk.specs.Runs.{with_turns}
 -- ---- receivers
 
 -- a call on what a name stands for
-abbrev pub on_name : Context → ℕ → List ℕ → List ℕ → List (Doing Arg) → Option Meant → Doing Arg
-on_name c line name member arguments v = call_on c line (spot_of_name c v name) (class_of_spot c (spot_of_name c v name)) member arguments
+abbrev pub on_name : Context → ℕ → List ℕ → List ℕ → List (Step Arg) → Option Meant → Step Arg
+on_name c line name member arguments v = call_on c line (location_of_name c v name) (class_of_location c (location_of_name c v name)) member arguments
 
-pub on_missing : (vs : List Variable) (c : Context) (s : Store) (line : ℕ) (name member : List ℕ) (arguments : List (Doing Arg)) → Stands vs c s
+pub on_missing : (vs : List Variable) (c : Context) (s : Store) (line : ℕ) (name member : List ℕ) (arguments : List (Step Arg)) → Stands vs c s
     → variable_named name (variables_held vs) ≡ None
     → on_name c line name member arguments (variable_named name s.variables) ≡ waits
 on_missing vs c s line name member arguments stands missing =
     ap (λ all. on_name c line name member arguments (variable_named name all)) stands.variables
     ∙ ap (λ v. on_name c line name member arguments v) missing
-    ∙ ap (λ (parts : List Part). call_on c line (spot_of_part None 0 (part_named name parts)) (class_of_spot c (spot_of_part None 0 (part_named name parts))) member arguments) stands.stateless
+    ∙ ap (λ (parts : List Part). call_on c line (location_of_part None 0 (part_named name parts)) (class_of_location c (location_of_part None 0 (part_named name parts))) member arguments) stands.stateless
 
-pub on_found : (vs : List Variable) (c : Context) (s : Store) (line : ℕ) (name member : List ℕ) (arguments : List (Doing Arg)) (v : Variable) → Stands vs c s
+pub on_found : (vs : List Variable) (c : Context) (s : Store) (line : ℕ) (name member : List ℕ) (arguments : List (Step Arg)) (v : Variable) → Stands vs c s
     → variable_named name (variables_held vs) ≡ Some (variable_held v)
     → on_name c line name member arguments (variable_named name s.variables)
-    ≡ call_on c line (spot_of_name c (Some (variable_held v)) name) (class_of_type c.declarations v.type_name.now) member arguments
+    ≡ call_on c line (location_of_name c (Some (variable_held v)) name) (class_of_type c.declarations v.type_name.now) member arguments
 on_found vs c s line name member arguments v stands found =
     ap (λ all. on_name c line name member arguments (variable_named name all)) stands.variables
     ∙ ap (λ one. on_name c line name member arguments one) found
 
-pub on_other : (c : Context) (line : ℕ) (name member : List ℕ) (arguments : List (Doing Arg)) (v : Variable)
+pub on_other : (c : Context) (line : ℕ) (name member : List ℕ) (arguments : List (Step Arg)) (v : Variable)
     → class_of_type c.declarations v.type_name.now ≡ None
-    → call_on c line (spot_of_name c (Some (variable_held v)) name) (class_of_type c.declarations v.type_name.now) member arguments ≡ waits
+    → call_on c line (location_of_name c (Some (variable_held v)) name) (class_of_type c.declarations v.type_name.now) member arguments ≡ waits
 on_other c line name member arguments v none =
-    ap (λ class. call_on c line (spot_of_name c (Some (variable_held v)) name) class member arguments) none
+    ap (λ class. call_on c line (location_of_name c (Some (variable_held v)) name) class member arguments) none
 
-pub on_class : (c : Context) (line : ℕ) (name member : List ℕ) (arguments : List (Doing Arg)) (v : Variable) (items : List Item)
+pub on_class : (c : Context) (line : ℕ) (name member : List ℕ) (arguments : List (Step Arg)) (v : Variable) (items : List Item)
     → (k : IsClassOf items (class_of_type c.declarations v.type_name.now))
-    → call_on c line (spot_of_name c (Some (variable_held v)) name) (class_of_type c.declarations v.type_name.now) member arguments
+    → call_on c line (location_of_name c (Some (variable_held v)) name) (class_of_type c.declarations v.type_name.now) member arguments
     ≡ call_of_member (member_named member (members_from k.id items)) (λ m. regular_call c m arguments)
 on_class c line name member arguments v items k =
-    ap (λ class. call_on c line (spot_of_name c (Some (variable_held v)) name) class member arguments) k.is
+    ap (λ class. call_on c line (location_of_name c (Some (variable_held v)) name) class member arguments) k.is
     ∙ regular k.class k.regular
     ∙ ap (λ (all : List Member). call_of_member (member_named member all) (λ m. regular_call c m arguments)) k.members where
       regular : (class : Class) → class.is_regular ≡ true
-          → call_on c line (spot_of_name c (Some (variable_held v)) name) (Some class) member arguments
+          → call_on c line (location_of_name c (Some (variable_held v)) name) (Some class) member arguments
           ≡ call_of_member (member_named member class.members) (λ m. regular_call c m arguments)
       regular class is = simp is
 
@@ -79,39 +80,39 @@ known_args [] = refl
 known_args (held.Know word ∷ hs) = known_args hs
 known_args (held.Trapped trap ∷ hs) = known_args hs
 
-answered : (hs : List Held) (known : Doing Arg) → answer (map arg_held hs) known ≡ unless_trapped (leftmost_trap (map arg_held hs)) known
-answered hs known = ap (λ b. cond b (give arg.Unknown) (unless_trapped (leftmost_trap (map arg_held hs)) known)) (known_args hs)
+answered : (hs : List Held) (known : Step Arg) → answer (map arg_held hs) known ≡ unless_trapped (leftmost_trap (map arg_held hs)) known
+answered hs known = ap (λ b. cond b (pure arg.Unknown) (unless_trapped (leftmost_trap (map arg_held hs)) known)) (known_args hs)
 
-pub arguments_stop : (c : Context) (m : Member) (arguments : List (Doing Arg)) (s t : Store) (e : BodyEnd)
+pub arguments_stop : (c : Context) (m : Member) (arguments : List (Step Arg)) (s t : Store) (e : BodyEnd)
     → all_of arguments s ≡ Ends e t → regular_call c m arguments s ≡ Ends e t
 arguments_stop c m arguments s t e ends =
-    ap (λ outcome. and_then outcome (λ args. λ after. and_then (spend c.turns after) (λ _. answer args (c.below.regular m (known_words args))))) ends
+    ap (λ outcome. and_then outcome (λ args. λ after. and_then (spend c.turns after) (λ _. answer args (c.callees.regular m (known_words args))))) ends
 
-pub turn_stops : (c : Context) (m : Member) (arguments : List (Doing Arg)) (args : List Arg) (s t : Store) (e : BodyEnd)
+pub turn_stops : (c : Context) (m : Member) (arguments : List (Step Arg)) (args : List Arg) (s t : Store) (e : BodyEnd)
     → all_of arguments s ≡ Goes args s → spend c.turns s ≡ Ends e t → regular_call c m arguments s ≡ Ends e t
 turn_stops c m arguments args s t e goes ends =
-    ap (λ outcome. and_then outcome (λ args. λ after. and_then (spend c.turns after) (λ _. answer args (c.below.regular m (known_words args))))) goes
-    ∙ ap (λ outcome. and_then outcome (λ _. answer args (c.below.regular m (known_words args)))) ends
+    ap (λ outcome. and_then outcome (λ args. λ after. and_then (spend c.turns after) (λ _. answer args (c.callees.regular m (known_words args))))) goes
+    ∙ ap (λ outcome. and_then outcome (λ _. answer args (c.callees.regular m (known_words args)))) ends
 
-call_answers : (c : Context) (m : Member) (arguments : List (Doing Arg)) (hs : List Held) (s t : Store)
+call_answers : (c : Context) (m : Member) (arguments : List (Step Arg)) (hs : List Held) (s t : Store)
     → all_of arguments s ≡ Goes (map arg_held hs) s → spend c.turns s ≡ Goes tt t
-    → regular_call c m arguments s ≡ unless_trapped (leftmost_trap (map arg_held hs)) (c.below.regular m (known_words (map arg_held hs))) t
+    → regular_call c m arguments s ≡ unless_trapped (leftmost_trap (map arg_held hs)) (c.callees.regular m (known_words (map arg_held hs))) t
 call_answers c m arguments hs s t goes spends =
-    ap (λ outcome. and_then outcome (λ args. λ after. and_then (spend c.turns after) (λ _. answer args (c.below.regular m (known_words args))))) goes
-    ∙ ap (λ outcome. and_then outcome (λ _. answer (map arg_held hs) (c.below.regular m (known_words (map arg_held hs))))) spends
-    ∙ ap (λ (doing : Doing Arg). doing t) (answered hs (c.below.regular m (known_words (map arg_held hs))))
+    ap (λ outcome. and_then outcome (λ args. λ after. and_then (spend c.turns after) (λ _. answer args (c.callees.regular m (known_words args))))) goes
+    ∙ ap (λ outcome. and_then outcome (λ _. answer (map arg_held hs) (c.callees.regular m (known_words (map arg_held hs))))) spends
+    ∙ ap (λ (step : Step Arg). step t) (answered hs (c.callees.regular m (known_words (map arg_held hs))))
 
-pub call_trapped : (c : Context) (m : Member) (arguments : List (Doing Arg)) (hs : List Held) (trap : Trap) (s t : Store)
+pub call_trapped : (c : Context) (m : Member) (arguments : List (Step Arg)) (hs : List Held) (trap : Trap) (s t : Store)
     → all_of arguments s ≡ Goes (map arg_held hs) s → spend c.turns s ≡ Goes tt t → leftmost_trap (map arg_held hs) ≡ Some trap
     → regular_call c m arguments s ≡ Goes (arg.Trapped trap) t
 call_trapped c m arguments hs trap s t goes spends found =
-    call_answers c m arguments hs s t goes spends ∙ ap (λ one. unless_trapped one (c.below.regular m (known_words (map arg_held hs))) t) found
+    call_answers c m arguments hs s t goes spends ∙ ap (λ one. unless_trapped one (c.callees.regular m (known_words (map arg_held hs))) t) found
 
-pub call_fires : (c : Context) (m : Member) (arguments : List (Doing Arg)) (hs : List Held) (s t : Store)
+pub call_fires : (c : Context) (m : Member) (arguments : List (Step Arg)) (hs : List Held) (s t : Store)
     → all_of arguments s ≡ Goes (map arg_held hs) s → spend c.turns s ≡ Goes tt t → leftmost_trap (map arg_held hs) ≡ None
-    → regular_call c m arguments s ≡ c.below.regular m (known_words (map arg_held hs)) t
+    → regular_call c m arguments s ≡ c.callees.regular m (known_words (map arg_held hs)) t
 call_fires c m arguments hs s t goes spends found =
-    call_answers c m arguments hs s t goes spends ∙ ap (λ one. unless_trapped one (c.below.regular m (known_words (map arg_held hs))) t) found
+    call_answers c m arguments hs s t goes spends ∙ ap (λ one. unless_trapped one (c.callees.regular m (known_words (map arg_held hs))) t) found
 
 -- ---- bodies
 
@@ -130,7 +131,7 @@ rtf_does : (at : At) (flow : Flow) (c : Context) (s : Store) → does (Rtf at fl
 rtf_does at flow c s = search (rules, the_lemmas)
 
 ended_with : (m : Member) (line : ℕ) (vs : List Variable) (turns : ℕ) (store : Store) (r : Result Held Trap)
-    → ended m store (and_then (and_then (passed r (inside vs turns)) (gives_result line)) (λ _. give tt)) ≡ Goes (arg_held (result_held r)) (with_turns store turns)
+    → ended m store (and_then (and_then (passed r (inside vs turns)) (gives_result line)) (λ _. pure tt)) ≡ Goes (arg_held (result_held r)) (with_turns store turns)
 ended_with m line vs turns store (Ok (held.Know word)) = ap (λ found. back_with turns (end.Done, found) store) (at_end m.result m.body.mark_line (known.Value (words_held word)))
 ended_with m line vs turns store (Ok (held.Trapped trap)) = ap (λ found. back_with turns (end.Done, found) store) (at_end m.result m.body.mark_line (known.Trapped trap))
 ended_with m line vs turns store (Err trap) = refl
@@ -155,7 +156,7 @@ pub body_gives : (inner : Context) (m : Member) (words : List (List ℤ)) (vs : 
 body_gives inner m words vs at flow budget after store r turns body formals spends passes_on =
     begins inner m words vs (Rtf at flow ∷ []) budget store turns body formals
     ∙ ap (λ outcome. ended m store (and_then outcome (λ _. in_turn (does (Rtf at flow) inner ∷ [])))) spends
-    ∙ ap (λ outcome. ended m store (and_then outcome (λ _. give tt))) (rtf_does at flow inner (inside vs after) ∙ ap (λ outcome. and_then outcome (gives_result at.line)) passes_on)
+    ∙ ap (λ outcome. ended m store (and_then outcome (λ _. pure tt))) (rtf_does at flow inner (inside vs after) ∙ ap (λ outcome. and_then outcome (gives_result at.line)) passes_on)
     ∙ ended_with m at.line vs after store r
 
 pub one_operand : (xs : List Statement) (x : Statement) → is_one_result xs ≡ true → x ≡ get_or xs 0 x → (xs ≡ x ∷ []) × (first.gives_result x ≡ true)

@@ -2,10 +2,10 @@
 use Rattle.std.proofs.Common.{◌≡◌, ◌≢◌, ℕ, List, Result, Ok, Err, ap, sym, ◌∙◌}
 use Rattle.std.specs.Result.{IsErrAnd}
 use Rattle.mpl_value.specs.declared.body.Arg.{Arg}
-use Rattle.mpl_mean.specs.CallMeaning.{regular_call}
-use Rattle.mpl_mean.specs.Context.{Context}
-use Rattle.mpl_mean.specs.Layout.{Member}
-use Rattle.mpl_mean.specs.Store.{Store, Outcome, Goes, Doing, all_of, spend}
+use Rattle.mpl_mean.specs.Meaning.CallMeaning.{regular_call}
+use Rattle.mpl_mean.specs.Meaning.Context.{Context}
+use Rattle.mpl_mean.specs.Meaning.Layout.{Member}
+use Rattle.mpl_mean.specs.Meaning.Store.{Store, Outcome, Goes, Step, all_of, spend}
 use Rattle.mpl_walk.specs.declared.held.Variable.{Variable}
 use Rattle.mpl_walk.specs.declared.stop.Stop.{Stop}
 use Rattle.mpl_walk.specs.declared.stop.Stop.TheVariants as stop
@@ -22,14 +22,14 @@ comes_stopped budget value outcome s (Err e) why is told =
 pub stands_with : (vs : List Variable) (c : Context) (s : Store) (turns : ℕ) → Stands vs c s → Stands vs c (with_turns s turns)
 stands_with vs c s turns stands = record { variables = stands.variables; stateless = stands.stateless; whole = stands.whole }
 
-pub arguments_stopped : (c : Context) (m : Member) (arguments : List (Doing Arg)) (budget : ℕ) (why : Stop) (s t : Store)
+pub arguments_stopped : (c : Context) (m : Member) (arguments : List (Step Arg)) (budget : ℕ) (why : Stop) (s t : Store)
     → all_of arguments s ≡ stopped budget why t → regular_call c m arguments s ≡ stopped budget why t
 arguments_stopped c m arguments budget (stop.Trap trap) s t h = arguments_stop c m arguments s _ _ h
 arguments_stopped c m arguments budget stop.Waits s t h = arguments_stop c m arguments s _ _ h
 arguments_stopped c m arguments budget stop.Spent s t h = arguments_stop c m arguments s _ _ h
 arguments_stopped c m arguments budget stop.NoMemory s t h = arguments_stop c m arguments s _ _ h
 
-pub turn_stopped : (c : Context) (m : Member) (arguments : List (Doing Arg)) (args : List Arg) (budget : ℕ) (why : Stop) (s t : Store)
+pub turn_stopped : (c : Context) (m : Member) (arguments : List (Step Arg)) (args : List Arg) (budget : ℕ) (why : Stop) (s t : Store)
     → all_of arguments s ≡ Goes args s → spend c.turns s ≡ stopped budget why t → regular_call c m arguments s ≡ stopped budget why t
 turn_stopped c m arguments args budget (stop.Trap trap) s t goes h = turn_stops c m arguments args s _ _ goes h
 turn_stopped c m arguments args budget stop.Waits s t goes h = turn_stops c m arguments args s _ _ goes h

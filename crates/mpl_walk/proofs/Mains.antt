@@ -14,9 +14,9 @@ use Rattle.mpl_ast.specs.declared.program.Declaration.{Declaration}
 use Rattle.mpl_ast.specs.declared.program.Declaration.TheVariants as declaration
 use Rattle.mpl_ast.specs.declared.statement.Block.{Block}
 use Rattle.mpl_ast.specs.declared.statement.TypeName.{TypeName}
-use Rattle.mpl_mean.specs.BodyMeaning.{main_statements, statements_of}
-use Rattle.mpl_mean.specs.FirstForm.{are_first, is_first_statement, is_class, is_int, is_without_formals}
-use Rattle.mpl_mean.specs.Layout.{Function, formals_of}
+use Rattle.mpl_mean.specs.Meaning.BodyMeaning.{main_statements, statements_of}
+use Rattle.mpl_mean.specs.FirstForms.FirstForm.{are_first, is_first_statement, is_class, is_int, is_without_formals}
+use Rattle.mpl_mean.specs.Meaning.Layout.{Function, formals_of}
 use Rattle.mpl_walk.specs.Found.{is_part}
 
 -- a function stands last, and is `main`

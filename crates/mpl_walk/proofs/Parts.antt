@@ -12,7 +12,7 @@ use Rattle.mpl_ast.specs.declared.expression.Primary as primary
 use Rattle.mpl_ast.specs.declared.expression.Relation.{Relation}
 use Rattle.mpl_ast.specs.declared.expression.Relation as relation
 use Rattle.mpl_ast.specs.declared.expression.Unary as unary
-use Rattle.mpl_mean.specs.ExpressionMeaning.{value_of}
+use Rattle.mpl_mean.specs.Meaning.ExpressionMeaning.{value_of}
 use Rattle.mpl_ast.specs.declared.expression.Sum.{Sum}
 use Rattle.mpl_ast.specs.declared.expression.SumOperator.{SumOperator}
 use Rattle.mpl_ast.specs.declared.expression.Sum as sum
@@ -22,8 +22,8 @@ use Rattle.mpl_ast.specs.declared.expression.TermOperator.{TermOperator}
 use Rattle.mpl_ast.specs.declared.expression.TermOperator.TheVariants.{Times, Over, Modulo}
 use Rattle.mpl_ast.specs.declared.expression.Unary.{Unary}
 use Rattle.mpl_ast.specs.declared.place.At.{At}
-use Rattle.mpl_mean.specs.FirstForm.{is_product, is_first_sum, is_first_term, is_first_unary}
-use Rattle.mpl_mean.specs.ExpressionLevels.{conjunction_value, equality_value, place_value, primary_value, relation_value, sum_value, term_value, unary_value}
+use Rattle.mpl_mean.specs.FirstForms.FirstForm.{is_product, is_first_sum, is_first_term, is_first_unary}
+use Rattle.mpl_mean.specs.FirstForms.ExpressionLevels.{conjunction_value, equality_value, place_value, primary_value, relation_value, sum_value, term_value, unary_value}
 
 pub sum_parts : (at : At) (line : ℕ) (left : Sum) (operator : SumOperator) (right : Term)
     → is_first_sum (sum.Add at line left operator right) ≡ true → (is_first_sum left ≡ true) × (is_first_term right ≡ true)

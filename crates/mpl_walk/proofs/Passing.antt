@@ -10,10 +10,10 @@ use Rattle.mpl_ast.specs.declared.flow.Flow as flow
 use Rattle.mpl_ast.specs.declared.place.At.{At}
 use Rattle.mpl_ast.specs.declared.place.Name.{Name}
 use Rattle.mpl_value.specs.declared.body.Arg.{Arg}
-use Rattle.mpl_mean.specs.FirstForm.{is_first_call, is_first_flow, is_variable}
-use Rattle.mpl_mean.specs.CallMeaning.{at_context, call_on_target, call_value, passes}
-use Rattle.mpl_mean.specs.Context.{Context}
-use Rattle.mpl_mean.specs.Store.{Store, Doing, variable_named}
+use Rattle.mpl_mean.specs.FirstForms.FirstForm.{is_first_call, is_first_flow, is_variable}
+use Rattle.mpl_mean.specs.Meaning.CallMeaning.{at_context, call_on_target, call_value, passes}
+use Rattle.mpl_mean.specs.Meaning.Context.{Context}
+use Rattle.mpl_mean.specs.Meaning.Store.{Store, Step, variable_named}
 use Rattle.mpl_ast.specs.declared.expression.Target.TheVariants as targets
 use Rattle.mpl_walk.proofs.Calling.{on_name}
 
@@ -30,7 +30,7 @@ pub call_on_variable : (at : At) (target : Target) (member : Name) (flows : List
     → call_value (call.OnTarget at target member flows) c ≡ call_on_target c at.line target member.text (map (λ f. passes f c) flows)
 call_on_variable at target member flows c =
     let layer : call_value (call.OnTarget at target member flows) c ≡ call_on_target c at.line target member.text (at_context c (map passes flows)) = search (rules, call.the_lemmas) in
-    layer ∙ ap (λ (all : List (Doing Arg)). call_on_target c at.line target member.text all) (passed_at c flows)
+    layer ∙ ap (λ (all : List (Step Arg)). call_on_target c at.line target member.text all) (passed_at c flows)
 
 pub all_built : (flows : List Flow) → list_all (λ b. b) (map is_first_flow flows) ≡ list_all is_first_flow flows
 all_built [] = refl
@@ -48,5 +48,5 @@ pub call_named : (node : Call) (at : At) (target : Target) (name_at : At) (name 
     → call_value node c s ≡ on_name c at.line name.text member.text (map (λ f. passes f c) flows) (variable_named name.text s.variables) s
 call_named node at target name_at name member flows c s is named =
     ap (λ n. call_value n c s) is
-    ∙ ap (λ (doing : Doing Arg). doing s) (call_on_variable at target member flows c)
+    ∙ ap (λ (step : Step Arg). step s) (call_on_variable at target member flows c)
     ∙ ap (λ t. call_on_target c at.line t member.text (map (λ f. passes f c) flows) s) named

@@ -12,12 +12,12 @@ use Rattle.mpl_ast.specs.declared.statement.Statement as statement
 use Rattle.mpl_value.specs.declared.body.BodyStart.{BodyStart}
 use Rattle.mpl_value.specs.declared.body.MemberId.{MemberId}
 use Rattle.mpl_value.specs.declared.known.Known.{Known}
-use Rattle.mpl_mean.specs.BodyMeaning.{below_at, body_of, context_with, main_statements, main_yield, run, store_with, yield_of}
-use Rattle.mpl_mean.specs.Context.{Context}
-use Rattle.mpl_mean.specs.StatementMeaning.{declares_all, does, line_of, values_of}
-use Rattle.mpl_mean.specs.Store.{Store, Outcome, Goes, Doing, and_then, declare, give, in_turn, printed}
-use Rattle.mpl_mean.specs.Values.{Value}
-use Rattle.mpl_mean.specs.Store.{Variable as Meant}
+use Rattle.mpl_mean.specs.Meaning.BodyMeaning.{callees_at, body_of, context_with, main_statements, main_yield, run, store_with, yield_of}
+use Rattle.mpl_mean.specs.Meaning.Context.{Context}
+use Rattle.mpl_mean.specs.Meaning.StatementMeaning.{declares_all, does, line_of, values_of}
+use Rattle.mpl_mean.specs.Meaning.Store.{Store, Outcome, Goes, Step, and_then, declare, pure, in_turn, printed}
+use Rattle.mpl_mean.specs.Meaning.Values.{Value}
+use Rattle.mpl_mean.specs.Meaning.Store.{Variable as Meant}
 use Rattle.mpl_walk.specs.declared.held.Variable.{Variable}
 use Rattle.mpl_walk.specs.declared.setting.Progress.{Progress}
 use Rattle.mpl_walk.specs.declared.stop.Stop.{Stop}
@@ -27,14 +27,14 @@ use Rattle.mpl_walk.specs.Runs.{Comes, Fits, prints, stopped, store_at}
 
 -- the context of `main`
 abbrev pub main_context : List Declaration → ℕ → FinMap nat_cmp Known → ℕ → Context
-main_context ds budget replies number = record (context_with ds budget replies (below_at budget ds budget replies)) { number = number }
+main_context ds budget replies number = record (context_with ds budget replies (callees_at budget ds budget replies)) { number = number }
 
 pub main_fits : (ds : List Declaration) (budget : ℕ) (replies : FinMap nat_cmp Known) (number : ℕ) → Fits ds budget (main_context ds budget replies number)
 main_fits ds zero replies number = record {
   declarations = refl;
   turns = refl;
   stateless = refl;
-  inner = context_with ds zero replies (below_at zero ds zero replies);
+  inner = context_with ds zero replies (callees_at zero ds zero replies);
   inner_turns = refl;
   inner_stateless = refl;
   regular = λ started m words. absurd (omega (arith, started));
@@ -43,7 +43,7 @@ main_fits ds (suc level) replies number = record {
   declarations = refl;
   turns = refl;
   stateless = refl;
-  inner = context_with ds (suc level) replies (below_at level ds (suc level) replies);
+  inner = context_with ds (suc level) replies (callees_at level ds (suc level) replies);
   inner_turns = refl;
   inner_stateless = refl;
   regular = λ started m words. refl;
@@ -58,7 +58,7 @@ stands_at ds budget c s p fits whole = record {
 }
 
 -- what comes behind a step that stops isn't done
-pub still_stopped : {A B : Type 0} (budget : ℕ) (why : Stop) (s : Store) (o : Outcome A) (next : A → Doing B)
+pub still_stopped : {A B : Type 0} (budget : ℕ) (why : Stop) (s : Store) (o : Outcome A) (next : A → Step B)
     → o ≡ stopped budget why s → and_then o next ≡ stopped budget why s
 still_stopped budget (stop.Trap trap) s o next h = ap (λ one. and_then one next) h
 still_stopped budget stop.Waits s o next h = ap (λ one. and_then one next) h
@@ -66,9 +66,9 @@ still_stopped budget stop.Spent s o next h = ap (λ one. and_then one next) h
 still_stopped budget stop.NoMemory s o next h = ap (λ one. and_then one next) h
 
 pub then_nothing : (budget : ℕ) (o : Outcome (Unit {0})) (s : Store) (r : Result (Unit {0}) Stop)
-    → Comes {A = Unit {0}} {B = Unit {0}} budget (λ _. tt) o s r → Comes {A = Unit {0}} {B = Unit {0}} budget (λ _. tt) (and_then o (λ _. give tt)) s r
-then_nothing budget o s (Ok done) h = ap (λ one. and_then one (λ _. give tt)) h
-then_nothing budget o s (Err why) h = λ memory. still_stopped budget why s o (λ _. give tt) (h memory)
+    → Comes {A = Unit {0}} {B = Unit {0}} budget (λ _. tt) o s r → Comes {A = Unit {0}} {B = Unit {0}} budget (λ _. tt) (and_then o (λ _. pure tt)) s r
+then_nothing budget o s (Ok done) h = ap (λ one. and_then one (λ _. pure tt)) h
+then_nothing budget o s (Err why) h = λ memory. still_stopped budget why s o (λ _. pure tt) (h memory)
 
 -- ---- statements
 
@@ -99,7 +99,7 @@ main_store start = store_with [] start.state start.input 0
 pub yield_is : (p : Program) (start : BodyStart) (replies : FinMap nat_cmp Known) (budget : ℕ) → start.member ≡ None
     → yield_of p start replies budget ≡ main_yield (run (main_context p.declarations budget replies start.number) (main_statements p.declarations) (main_store start))
 yield_is p start replies budget main =
-    ap (λ (m : Option MemberId). body_of (context_with p.declarations budget replies (below_at budget p.declarations budget replies)) start m) main
+    ap (λ (m : Option MemberId). body_of (context_with p.declarations budget replies (callees_at budget p.declarations budget replies)) start m) main
 
 -- ---- declarations
 

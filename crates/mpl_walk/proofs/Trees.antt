@@ -8,7 +8,7 @@ use Rattle.mpl_ast.specs.declared.flow.Flow.{Flow, out-Flow}
 use Rattle.mpl_ast.specs.declared.flow.Flow as flow
 use Rattle.mpl_ast.specs.declared.place.At.{At}
 use Rattle.mpl_ast.specs.declared.place.Name.{Name}
-use Rattle.mpl_mean.specs.FirstForm.{is_call, is_first_call, is_first_flow}
+use Rattle.mpl_mean.specs.FirstForms.FirstForm.{is_call, is_first_call, is_first_flow}
 use Rattle.mpl_walk.proofs.Passing.{all_built}
 
 pub call_made : (a b c : At) (n m : Name) (flows : List Flow) (k : Call) → k ≡ call.OnTarget b (Variable c n) m flows → list_all is_first_flow flows ≡ true

@@ -1,7 +1,7 @@
 -- What an evaluation has come to.
 use Rattle.std.specs.Prelude.{ℕ, Option, Some, ℤ, Result, Ok, Err}
-use Rattle.mpl_mean.specs.Store.{Doing, give, stop}
-use Rattle.mpl_mean.specs.Values.{Value}
+use Rattle.mpl_mean.specs.Meaning.Store.{Step, pure, stop}
+use Rattle.mpl_mean.specs.Meaning.Values.{Value}
 use Rattle.mpl_value.specs.declared.body.Arg.{Arg}
 use Rattle.mpl_value.specs.declared.body.BodyEnd.TheVariants as end
 use Rattle.mpl_value.specs.declared.known.Trap.{Trap}
@@ -16,13 +16,13 @@ on_line line (Ok z) = Ok (Some z)
 on_line line (Err kind) = Err (record { kind = kind; line = line })
 
 -- a word, or the trap in its place
-abbrev pub evaluated : Result (Option ℤ) Trap → Doing Value
-evaluated (Ok word) = give (value_held word)
+abbrev pub evaluated : Result (Option ℤ) Trap → Step Value
+evaluated (Ok word) = pure (value_held word)
 evaluated (Err trap) = stop (end.Trap trap)
 
 -- what is passed on, or the trap of its evaluation
-abbrev pub passed : Result Held Trap → Doing Arg
-passed (Ok held) = give (arg_held held)
+abbrev pub passed : Result Held Trap → Step Arg
+passed (Ok held) = pure (arg_held held)
 passed (Err trap) = stop (end.Trap trap)
 
 -- a trap that ends a body is its result

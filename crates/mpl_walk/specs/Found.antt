@@ -5,9 +5,9 @@ use Rattle.mpl_ast.specs.declared.class.Formal.{Formal}
 use Rattle.mpl_ast.specs.declared.class.Item.{Item}
 use Rattle.mpl_ast.specs.declared.program.Declaration.{Declaration}
 use Rattle.mpl_ast.specs.declared.program.Declaration.TheVariants as declaration
-use Rattle.mpl_mean.specs.FirstForm.{is_first_item, is_int, is_one_result, is_regular}
-use Rattle.mpl_mean.specs.Layout as mean
-use Rattle.mpl_mean.specs.Layout.{Class, class_named, classes_from, member_named, members_from}
+use Rattle.mpl_mean.specs.FirstForms.FirstForm.{is_first_item, is_int, is_one_result, is_regular}
+use Rattle.mpl_mean.specs.Meaning.Layout as mean
+use Rattle.mpl_mean.specs.Meaning.Layout.{Class, class_named, classes_from, member_named, members_from}
 use Rattle.mpl_walk.specs.declared.lookup.Member.{Member}
 
 -- a class that is built, or a function

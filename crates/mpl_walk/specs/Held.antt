@@ -4,12 +4,13 @@ use Rattle.mpl_ast.specs.declared.program.Declaration.{Declaration}
 use Rattle.mpl_value.specs.declared.body.Arg.{Arg}
 use Rattle.mpl_value.specs.declared.body.Arg.TheVariants as arg
 use Rattle.mpl_value.specs.declared.known.Trap.{Trap}
-use Rattle.mpl_mean.specs.Context.{Context}
-use Rattle.mpl_mean.specs.Layout.{words_of}
-use Rattle.mpl_mean.specs.PlaceMeaning.{is_bool}
-use Rattle.mpl_mean.specs.Store as mean
-use Rattle.mpl_mean.specs.Store.{Store, words_at}
-use Rattle.mpl_mean.specs.Values.{Value}
+use Rattle.mpl_mean.specs.Meaning.Context.{Context}
+use Rattle.mpl_mean.specs.Meaning.Layout.{words_of}
+use Rattle.mpl_mean.specs.Meaning.PlaceMeaning.{is_bool}
+use Rattle.mpl_mean.specs.Meaning.Store as mean
+use Rattle.mpl_mean.specs.Meaning.Store.{Store}
+use Rattle.mpl_value.specs.Words.{words_at}
+use Rattle.mpl_mean.specs.Meaning.Values.{Value}
 use Rattle.mpl_walk.specs.declared.held.Held.{Held}
 use Rattle.mpl_walk.specs.declared.held.Held.TheVariants as held
 use Rattle.mpl_walk.specs.declared.held.Variable.{Variable}

@@ -5,11 +5,11 @@ use Rattle.mpl_ast.specs.declared.program.Declaration.{Declaration}
 use Rattle.mpl_ast.specs.declared.statement.TypeName.{TypeName}
 use Rattle.mpl_value.specs.declared.body.Arg.{Arg}
 use Rattle.mpl_value.specs.declared.body.BodyEnd.TheVariants as end
-use Rattle.mpl_mean.specs.BodyMeaning.{regular_body}
-use Rattle.mpl_mean.specs.Context.{Context}
-use Rattle.mpl_mean.specs.Layout.{Member}
-use Rattle.mpl_mean.specs.Store.{Store, Variable, Outcome, Goes, Ends, Doing, ◌>>=◌, declare, printed}
-use Rattle.mpl_mean.specs.StatementMeaning.{Effect, line_of, values_of}
+use Rattle.mpl_mean.specs.Meaning.BodyMeaning.{regular_body}
+use Rattle.mpl_mean.specs.Meaning.Context.{Context}
+use Rattle.mpl_mean.specs.Meaning.Layout.{Member}
+use Rattle.mpl_mean.specs.Meaning.Store.{Store, Variable, Outcome, Goes, Ends, Step, ◌>>=◌, declare, printed}
+use Rattle.mpl_mean.specs.Meaning.StatementMeaning.{Effect, line_of, values_of}
 use Rattle.mpl_walk.specs.Held.{variables_held}
 use Rattle.mpl_walk.specs.declared.setting.Progress.{Progress}
 use Rattle.mpl_walk.specs.declared.stop.Stop.{Stop}
@@ -42,7 +42,7 @@ pub record Fits (ds : List Declaration) (budget : ℕ) (c : Context) : Type 0 wh
   pub inner : Context
   pub inner_turns : inner.turns ≡ budget
   pub inner_stateless : inner.state ≡ []
-  pub regular : 0 < budget → (m : Member) (words : List (List ℤ)) → c.below.regular m words ≡ regular_body inner m words
+  pub regular : 0 < budget → (m : Member) (words : List (List ℤ)) → c.callees.regular m words ≡ regular_body inner m words
 
 -- ---- statements
 
@@ -52,5 +52,5 @@ prints c arguments = values_of c arguments >>= (λ values. printed (line_of valu
 abbrev pub local_of : TypeName → List ℕ → Arg → Variable
 local_of type name holds = record { name = name; type = type; dimension = None; holds = holds }
 
-abbrev pub declares_result : TypeName → List ℕ → Doing Arg → Effect
+abbrev pub declares_result : TypeName → List ℕ → Step Arg → Effect
 declares_result type name gives = gives >>= (λ holds. declare (local_of type name holds))

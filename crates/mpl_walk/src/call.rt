@@ -2,13 +2,14 @@ ghost use Rattle.std.specs.Prelude.{◌≡◌, ◌≤◌, ◌<◌, ◌∷◌, []
 ghost use Rattle.std.specs.List.{list_all};
 ghost use Rattle.mpl_ast.specs.declared.place.At.{At};
 ghost use Rattle.mpl_ast.specs.declared.statement.Statement.{Rtf};
-ghost use Rattle.mpl_mean.specs.FirstForm.{gives_result, is_first_call, is_first_flow, is_one_result};
-ghost use Rattle.mpl_mean.specs.BodyMeaning.{formals_holding};
-ghost use Rattle.mpl_mean.specs.CallMeaning.{call_on, call_value, class_of_spot, known_words, leftmost_trap, passes, regular_call};
-ghost use Rattle.mpl_mean.specs.Context.{Context};
-ghost use Rattle.mpl_mean.specs.Layout as mean;
-ghost use Rattle.mpl_mean.specs.PlaceMeaning.{spot_of_name};
-ghost use Rattle.mpl_mean.specs.Store.{Store, Doing, variable_named, waits};
+ghost use Rattle.mpl_mean.specs.FirstForms.FirstForm.{gives_result, is_first_call, is_first_flow, is_one_result};
+ghost use Rattle.mpl_mean.specs.Meaning.BodyMeaning.{formals_holding};
+ghost use Rattle.mpl_mean.specs.Meaning.CallMeaning.{call_on, call_value, class_of_location, passes, regular_call};
+ghost use Rattle.mpl_value.specs.CallAnswers.{known_words, leftmost_trap};
+ghost use Rattle.mpl_mean.specs.Meaning.Context.{Context};
+ghost use Rattle.mpl_mean.specs.Meaning.Layout as mean;
+ghost use Rattle.mpl_mean.specs.Meaning.PlaceMeaning.{location_of_name};
+ghost use Rattle.mpl_mean.specs.Meaning.Store.{Store, Step, variable_named, waits};
 ghost use Rattle.mpl_value.specs.declared.body.Arg.{Arg};
 ghost use Rattle.mpl_ast.specs.declared.program.Declaration.{Declaration};
 ghost use Rattle.mpl_walk.specs.Evaluated.{result_held};
@@ -74,7 +75,7 @@ fn receiver<'a>(
 ) -> Option<Member<'a>>
     requires { list_all is_part declarations.now ≡ true }
     ensures built { IfSome result (λ m. (list_all is_int_formal m.formals.now ≡ true) × (is_one_result m.body.now.statements ≡ true)) }
-    ensures receives { (c : Context) (s : Store) → Stands variables.now c s → c.declarations ≡ declarations.now → (line : ℕ) (arguments : List (Doing Arg)) → let spot = spot_of_name c (variable_named name.now s.variables) name.now in let doing = call_on c line spot (class_of_spot c spot) member.now arguments in MatchOption result (doing ≡ waits) (λ m. (found : mean.Member) × (doing ≡ regular_call c found arguments) × IsMember m found) }
+    ensures receives { (c : Context) (s : Store) → Stands variables.now c s → c.declarations ≡ declarations.now → (line : ℕ) (arguments : List (Step Arg)) → let location = location_of_name c (variable_named name.now s.variables) name.now in let step = call_on c line location (class_of_location c location) member.now arguments in MatchOption result (step ≡ waits) (λ m. (found : mean.Member) × (step ≡ regular_call c found arguments) × IsMember m found) }
 {
     let variable = find(variables, name)?;
     match variable.type_name {
@@ -136,7 +137,7 @@ fn fire(
     requires within { turns.old ≤ setting.now.budget }
     requires started { 0 < setting.now.budget }
     ensures within { turns.new ≤ setting.now.budget }
-    ensures gives { (c : Context) (s : Store) (found : mean.Member) → Fits setting.now.declarations.now setting.now.budget c → IsMember member.entry found → Comes setting.now.budget arg_held (c.below.regular found (known_words (map arg_held arguments.now)) (with_turns s turns.old)) (with_turns s turns.new) result }
+    ensures gives { (c : Context) (s : Store) (found : mean.Member) → Fits setting.now.declarations.now setting.now.budget c → IsMember member.entry found → Comes setting.now.budget arg_held (c.callees.regular found (known_words (map arg_held arguments.now)) (with_turns s turns.old)) (with_turns s turns.new) result }
 {
     let variables = bound(setting.alloc, member.formals, arguments)?;
     spend(setting.budget, turns)?;

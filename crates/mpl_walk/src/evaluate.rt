@@ -1,12 +1,12 @@
 ghost use Rattle.std.specs.Prelude.{◌≡◌, ℕ, true, map};
 ghost use Rattle.std.specs.List.{list_all};
-ghost use Rattle.mpl_mean.specs.FirstForm.{is_first_expression, is_first_conjunction, is_first_equality, is_first_relation, is_first_sum, is_first_term, is_first_unary, is_first_primary, is_first_place};
-ghost use Rattle.mpl_mean.specs.Context.{Context};
-ghost use Rattle.mpl_mean.specs.ExpressionMeaning.{value_of};
-ghost use Rattle.mpl_mean.specs.PlaceMeaning.{spot_of_name, words_of_spot};
-ghost use Rattle.mpl_mean.specs.StatementMeaning.{values_of};
-ghost use Rattle.mpl_mean.specs.Store.{Store, variable_named};
-ghost use Rattle.mpl_mean.specs.ExpressionLevels.{conjunction_value, equality_value, relation_value, sum_value, term_value, unary_value, primary_value, place_value};
+ghost use Rattle.mpl_mean.specs.FirstForms.FirstForm.{is_first_expression, is_first_conjunction, is_first_equality, is_first_relation, is_first_sum, is_first_term, is_first_unary, is_first_primary, is_first_place};
+ghost use Rattle.mpl_mean.specs.Meaning.Context.{Context};
+ghost use Rattle.mpl_mean.specs.Meaning.ExpressionMeaning.{value_of};
+ghost use Rattle.mpl_mean.specs.Meaning.PlaceMeaning.{location_of_name, words_of_location};
+ghost use Rattle.mpl_mean.specs.Meaning.StatementMeaning.{values_of};
+ghost use Rattle.mpl_mean.specs.Meaning.Store.{Store, variable_named};
+ghost use Rattle.mpl_mean.specs.FirstForms.ExpressionLevels.{conjunction_value, equality_value, relation_value, sum_value, term_value, unary_value, primary_value, place_value};
 ghost use Rattle.mpl_walk.specs.Evaluated.{evaluated, on_line};
 ghost use Rattle.mpl_walk.specs.Held.{Stands, value_held};
 ghost use Rattle.mpl_walk.specs.Runs.{Comes};
@@ -150,7 +150,7 @@ fn place_value(variables: &[Variable], node: &Place) -> Result<Option<i64>, Trap
 
 /// The word of a variable. What names no variable has none.
 fn read(variables: &[Variable], name: &[u8]) -> Result<Option<i64>, Trap>
-    ensures { (c : Context) (s : Store) → Stands variables.now c s → words_of_spot (spot_of_name c (variable_named name.now s.variables) name.now) s ≡ evaluated result s }
+    ensures { (c : Context) (s : Store) → Stands variables.now c s → words_of_location (location_of_name c (variable_named name.now s.variables) name.now) s ≡ evaluated result s }
 {
     match find(variables, name) {
         Some(variable) => force(variable.holds),

@@ -1,9 +1,9 @@
 ghost use Rattle.std.specs.Prelude.{◌≡◌, List, Some, None, MatchOption, IfSome};
 ghost use Rattle.std.specs.Str.{bytes_eq};
 ghost use Rattle.mpl_ast.specs.declared.program.Declaration.{Declaration};
-ghost use Rattle.mpl_mean.specs.Store.{variable_named};
+ghost use Rattle.mpl_mean.specs.Meaning.Store.{variable_named};
 ghost use Rattle.mpl_walk.specs.Held.{forced, variable_held, variables_held, words_held, IsWhole, Whole};
-ghost use Rattle.mpl_mean.specs.Values.{first_word};
+ghost use Rattle.mpl_mean.specs.Meaning.Values.{first_word};
 
 use mpl_ast::statement::TypeName;
 use mpl_value::Trap;

@@ -1,9 +1,9 @@
 ghost use Rattle.std.specs.Prelude.{◌≡◌, ℕ, true, Some, None, List, codes, MatchOption};
 ghost use Rattle.std.specs.List.{list_all};
-ghost use Rattle.mpl_mean.specs.FirstForm.{is_first_form, is_first_item, is_first_statement};
-ghost use Rattle.mpl_mean.specs.BodyMeaning.{main_statements};
-ghost use Rattle.mpl_mean.specs.Layout as mean;
-ghost use Rattle.mpl_mean.specs.Layout.{class_named, classes_from, formals_of, member_named, members_from};
+ghost use Rattle.mpl_mean.specs.FirstForms.FirstForm.{is_first_form, is_first_item, is_first_statement};
+ghost use Rattle.mpl_mean.specs.Meaning.BodyMeaning.{main_statements};
+ghost use Rattle.mpl_mean.specs.Meaning.Layout as mean;
+ghost use Rattle.mpl_mean.specs.Meaning.Layout.{class_named, classes_from, formals_of, member_named, members_from};
 ghost use Rattle.mpl_walk.specs.Found.{is_part, IsClassOf, IsMember, SkipsClass, SkipsMember, TakesClass, TakesMember};
 
 use crate::held::is_same;

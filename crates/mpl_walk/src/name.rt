@@ -1,6 +1,6 @@
 ghost use Rattle.std.specs.Prelude.{◌≡◌, Some, None, MatchOption};
-ghost use Rattle.mpl_mean.specs.CallMeaning.{whole_name};
-ghost use Rattle.mpl_mean.specs.ExpressionLevels.{conjunction_name, equality_name, relation_name, sum_name, term_name, unary_name, primary_name, place_name};
+ghost use Rattle.mpl_mean.specs.Meaning.CallMeaning.{whole_name};
+ghost use Rattle.mpl_mean.specs.FirstForms.ExpressionLevels.{conjunction_name, equality_name, relation_name, sum_name, term_name, unary_name, primary_name, place_name};
 
 use mpl_ast::expression::{
     Conjunction, Equality, Expression, Place, Primary, Relation, Sum, Target, Term, Unary,

@@ -1,9 +1,9 @@
 ghost use Rattle.std.specs.Prelude.{◌≡◌, ℕ, true, map, Some, None, MatchOption};
 ghost use Rattle.std.specs.List.{list_all};
-ghost use Rattle.mpl_mean.specs.FirstForm.{is_first_expression, is_first_flow};
-ghost use Rattle.mpl_mean.specs.CallMeaning.{pass, passes, whole_name, whole_variable};
-ghost use Rattle.mpl_mean.specs.Context.{Context};
-ghost use Rattle.mpl_mean.specs.Store.{Store, all_of};
+ghost use Rattle.mpl_mean.specs.FirstForms.FirstForm.{is_first_expression, is_first_flow};
+ghost use Rattle.mpl_mean.specs.Meaning.CallMeaning.{pass, passes, whole_name, whole_variable};
+ghost use Rattle.mpl_mean.specs.Meaning.Context.{Context};
+ghost use Rattle.mpl_mean.specs.Meaning.Store.{Store, all_of};
 ghost use Rattle.mpl_walk.specs.Held.{Stands, arg_held, variable_held, variables_held};
 ghost use Rattle.mpl_walk.specs.Evaluated.{passed};
 ghost use Rattle.mpl_walk.specs.Runs.{Comes};

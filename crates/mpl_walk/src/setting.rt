@@ -1,5 +1,5 @@
 ghost use Rattle.std.specs.Prelude.{◌≡◌, ◌≤◌, ◌+◌, OnOk};
-ghost use Rattle.mpl_mean.specs.Store.{Store, spend};
+ghost use Rattle.mpl_mean.specs.Meaning.Store.{Store, spend};
 ghost use Rattle.mpl_walk.specs.Runs.{Comes, with_turns};
 
 use crate::held::Variable;

@@ -1,7 +1,7 @@
 ghost use Rattle.std.specs.Prelude.{◌≡◌, ◌≤◌, ◌∷◌, ◌++◌, [], true, None, IfOk};
 ghost use Rattle.std.specs.List.{list_all};
 ghost use Rattle.mpl_ast.specs.declared.flow.Flow.{out-Flow};
-ghost use Rattle.mpl_mean.specs.FirstForm.{is_first_form, is_first_declarator, is_first_expression, is_first_flow, is_first_item, is_first_statement, is_call, is_class, is_int, is_main, is_one_result, is_first_sum, is_first_term, is_first_unary};
+ghost use Rattle.mpl_mean.specs.FirstForms.FirstForm.{is_first_form, is_first_declarator, is_first_expression, is_first_flow, is_first_item, is_first_statement, is_call, is_class, is_int, is_main, is_one_result, is_first_sum, is_first_term, is_first_unary};
 ghost use Rattle.mpl_walk.specs.Found.{is_int_formal};
 
 use crate::walk;

@@ -2,8 +2,8 @@ use Rattle.std.proofs.Common.{◌≡◌, ℕ, suc, ◌==◌, ◌≤◌, ◌∙�
 use Rattle.std.proofs.lemmas.Bool.Decides.{nat_tests}
 use Rattle.mpl_ast.specs.declared.program.Program.{Program}
 use Rattle.mpl_ast.specs.declared.token.Token.{Token}
-use Rattle.mpl_mean.specs.ProgramText.{spells}
-use Rattle.mpl_mean.specs.Reading.{Rest}
+use Rattle.mpl_mean.specs.Text.ProgramText.{spells}
+use Rattle.mpl_mean.specs.Text.Reading.{Rest}
 use Rattle.mentat_cmd.specs.Reader.{rest_of}
 use Rattle.mentat_cmd.specs.Stages.{BeforeDeclaration, leads}
 use Rattle.mentat_cmd.proofs.Closing.{closes-declarations}

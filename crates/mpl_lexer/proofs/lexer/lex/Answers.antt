@@ -1,6 +1,6 @@
 use Rattle.std.proofs.Common.{◌≡◌, ◌+◌, ◌-◌, count_by, drop, take, subst, ap, ◌∙◌, arith, Option}
 use Rattle.std.proofs.lemmas.Result.{err_from_is_err_and}
-use Rattle.mpl_mean.specs.Lexemes.{is_line_feed}
+use Rattle.mpl_mean.specs.Text.Lexemes.{is_line_feed}
 use Rattle.mpl_ast.specs.declared.token.TokenKind.{TokenKind}
 use Rattle.mpl_lexer.specs.Lexing.{IsLexeme, lexeme_of}
 use Rattle.mpl_lexer.proofs.Steps.{LoopKeeps-gap, LoopKeeps-word, LoopKeeps-fault}

@@ -1,5 +1,5 @@
 use Rattle.std.proofs.Common.{◌≡◌, take}
-use Rattle.mpl_mean.specs.Lexemes.{value_of}
+use Rattle.mpl_mean.specs.Text.Lexemes.{value_of}
 use Rattle.mpl_lexer.proofs.scan.number.Given as goal
 
 -- the value of the digits so far

@@ -1,4 +1,4 @@
-use Rattle.mpl_mean.proofs.MoreTurns.{more_turns}
+use Rattle.mpl_mean.proofs.MoreTurns.TurnsChangeNothing.{more_turns}
 use Rattle.mpl_mean.proofs.laws.more_turns_change_nothing.Goals as goal
 
 pub returns : goal.returns

@@ -1,5 +1,5 @@
-use Rattle.mpl_mean.specs.Rules.{failures}
-use Rattle.mpl_mean.proofs.LeastFailure.{least_found, least_first, least_none, none_least}
+use Rattle.mpl_mean.specs.TypeRules.Rules.{failures}
+use Rattle.mpl_mean.proofs.LeastRefusal.LeastFailure.{least_found, least_first, least_none, none_least}
 use Rattle.mpl_mean.proofs.laws.refusals_are_least.Goals as goal
 
 pub returns-clause-fails : goal.returns-clause-fails

@@ -1,4 +1,4 @@
-use Rattle.mpl_mean.proofs.TokenCount.{few_from}
+use Rattle.mpl_mean.proofs.TokensAreFew.TokenCount.{few_from}
 use Rattle.mpl_mean.proofs.laws.tokens_are_few.Goals as goal
 
 pub returns : goal.returns

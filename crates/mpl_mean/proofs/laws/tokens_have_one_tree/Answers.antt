@@ -1,4 +1,4 @@
-use Rattle.mpl_mean.proofs.OneTree.{one_tree}
+use Rattle.mpl_mean.proofs.OneTree.TreesAreOne.{one_tree}
 use Rattle.mpl_mean.proofs.laws.tokens_have_one_tree.Goals as goal
 
 pub returns : goal.returns

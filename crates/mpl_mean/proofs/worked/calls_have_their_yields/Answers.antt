@@ -1,6 +1,6 @@
 use Rattle.std.proofs.Common.{[]}
-use Rattle.mpl_mean.specs.CallPrograms as program
-use Rattle.mpl_mean.proofs.OpenedBodies.{opened_yield, runs}
+use Rattle.mpl_mean.specs.SmallPrograms.CallPrograms as program
+use Rattle.mpl_mean.proofs.SmallPrograms.OpenedBodies.{opened_yield, runs}
 use Rattle.mpl_mean.proofs.worked.calls_have_their_yields.Goals as goal
 
 pub returns-clause-sum_of_squares : goal.returns-clause-sum_of_squares

@@ -1,6 +1,6 @@
 use Rattle.std.proofs.Common.{[], ◌∷◌, pos}
-use Rattle.mpl_mean.specs.LoopPrograms as program
-use Rattle.mpl_mean.proofs.OpenedBodies.{opened_yield, runs}
+use Rattle.mpl_mean.specs.SmallPrograms.LoopPrograms as program
+use Rattle.mpl_mean.proofs.SmallPrograms.OpenedBodies.{opened_yield, runs}
 use Rattle.mpl_mean.proofs.worked.loops_have_their_turns.Goals as goal
 
 pub returns-clause-products_of_input : goal.returns-clause-products_of_input

@@ -1,6 +1,6 @@
 use Rattle.std.proofs.Common.{[]}
-use Rattle.mpl_mean.specs.OrderPrograms as program
-use Rattle.mpl_mean.proofs.OpenedBodies.{opened_yield, runs}
+use Rattle.mpl_mean.specs.SmallPrograms.OrderPrograms as program
+use Rattle.mpl_mean.proofs.SmallPrograms.OpenedBodies.{opened_yield, runs}
 use Rattle.mpl_mean.proofs.worked.parts_have_their_order.Goals as goal
 
 pub returns-clause-parentheses_force : goal.returns-clause-parentheses_force

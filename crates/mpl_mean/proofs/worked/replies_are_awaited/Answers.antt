@@ -1,9 +1,9 @@
 use Rattle.std.proofs.Common.{[], ◌∷◌, ◌∙◌, pos}
 use Rattle.std.specs.FinMap.{empty, get-empty}
-use Rattle.mpl_mean.specs.DirectRun.{main_start}
-use Rattle.mpl_mean.specs.ReplyPrograms as program
-use Rattle.mpl_mean.specs.WorkedYields.{member_start}
-use Rattle.mpl_mean.proofs.OpenedBodies.{opened_yield, opens, runs}
+use Rattle.mpl_mean.specs.Meaning.DirectRun.{main_start}
+use Rattle.mpl_mean.specs.SmallPrograms.ReplyPrograms as program
+use Rattle.mpl_mean.specs.SmallPrograms.WorkedYields.{member_start}
+use Rattle.mpl_mean.proofs.SmallPrograms.OpenedBodies.{opened_yield, opens, runs}
 use Rattle.mpl_mean.proofs.worked.replies_are_awaited.Goals as goal
 
 pub returns-clause-two_replies : goal.returns-clause-two_replies

@@ -1,8 +1,8 @@
 use Rattle.std.proofs.Common.{[], ◌∷◌, negsuc, pos}
 use Rattle.std.specs.FinMap.{empty}
-use Rattle.mpl_mean.specs.TrapPrograms as program
-use Rattle.mpl_mean.specs.WorkedYields.{regular_start}
-use Rattle.mpl_mean.proofs.OpenedBodies.{opened_yield, opens, runs}
+use Rattle.mpl_mean.specs.SmallPrograms.TrapPrograms as program
+use Rattle.mpl_mean.specs.SmallPrograms.WorkedYields.{regular_start}
+use Rattle.mpl_mean.proofs.SmallPrograms.OpenedBodies.{opened_yield, opens, runs}
 use Rattle.mpl_mean.proofs.worked.traps_have_their_lines.Goals as goal
 
 pub returns-clause-overflow : goal.returns-clause-overflow

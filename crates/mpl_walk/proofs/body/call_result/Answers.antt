@@ -1,7 +1,7 @@
 use Rattle.std.proofs.Common.{sym, ap, subst, ◌∙◌}
 use Rattle.mpl_value.specs.declared.body.Arg.{Arg}
-use Rattle.mpl_mean.specs.CallMeaning.{call_value, passes}
-use Rattle.mpl_mean.specs.Store.{Doing}
+use Rattle.mpl_mean.specs.Meaning.CallMeaning.{call_value, passes}
+use Rattle.mpl_mean.specs.Meaning.Store.{Step}
 use Rattle.mpl_walk.specs.Held.{Stands, arg_held}
 use Rattle.mpl_walk.specs.Runs.{Comes, store_at, with_turns}
 use Rattle.mpl_walk.proofs.Passing.{flow_of_call}
@@ -17,6 +17,6 @@ returns-clause-gives c = λ context s fits.
     subst (λ all. Stands all context t) (sym c.as_slice-variables.ensures.value) (stands_at c.args.setting.now.declarations.now budget context s p fits c.requires.whole) in
     let is =
     ap (λ flow. passes flow context t) c.in-OfCall.is
-    ∙ ap (λ (doing : Doing Arg). doing t) (flow_of_call c.in-OfCall.field-0 c.in-OfCall.node context)
+    ∙ ap (λ (step : Step Arg). step t) (flow_of_call c.in-OfCall.field-0 c.in-OfCall.node context)
     ∙ ap (λ node. call_value node context t) (sym c.get.ensures) in
     subst (λ outcome. Comes budget arg_held outcome (with_turns t c.call.new.turns) c.call.result) (sym is) (c.call.ensures.gives context t fits stands)

@@ -1,8 +1,8 @@
 use Rattle.std.proofs.Common.{List, None, refl, sym, ap, ◌∙◌}
 use Rattle.mpl_ast.specs.declared.program.Declaration.{Declaration}
 use Rattle.mpl_value.specs.declared.body.Arg.TheVariants.{Know}
-use Rattle.mpl_mean.specs.Layout.{words_of}
-use Rattle.mpl_mean.specs.StatementMeaning.{zeros}
+use Rattle.mpl_mean.specs.Meaning.Layout.{words_of}
+use Rattle.mpl_value.specs.Words.{zeros}
 use Rattle.mpl_walk.specs.Held.{words_held}
 use Rattle.mpl_walk.specs.Runs.{local_of}
 use Rattle.mpl_walk.proofs.Binding.{known_front}

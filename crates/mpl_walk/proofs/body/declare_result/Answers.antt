@@ -1,6 +1,6 @@
 use Rattle.std.proofs.Common.{sym, ap, subst, ◌∙◌}
-use Rattle.mpl_mean.specs.CallMeaning.{passes}
-use Rattle.mpl_mean.specs.Store.{and_then, declare}
+use Rattle.mpl_mean.specs.Meaning.CallMeaning.{passes}
+use Rattle.mpl_mean.specs.Meaning.Store.{and_then, declare}
 use Rattle.mpl_walk.specs.Held.{Whole, arg_held}
 use Rattle.mpl_walk.specs.Runs.{declares_result, local_of, store_at}
 use Rattle.mpl_walk.proofs.Binding.{int_front}

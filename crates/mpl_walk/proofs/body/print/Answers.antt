@@ -1,6 +1,6 @@
 use Rattle.std.proofs.Common.{◌++◌, map, sym, ap, subst, ◌∙◌}
-use Rattle.mpl_mean.specs.StatementMeaning.{line_of, values_of}
-use Rattle.mpl_mean.specs.Store.{printed}
+use Rattle.mpl_mean.specs.Meaning.StatementMeaning.{line_of, values_of}
+use Rattle.mpl_mean.specs.Meaning.Store.{printed}
 use Rattle.mpl_walk.specs.Held.{Stands, value_held}
 use Rattle.mpl_walk.specs.Runs.{prints, store_at}
 use Rattle.mpl_walk.proofs.Coming.{comes_stopped}

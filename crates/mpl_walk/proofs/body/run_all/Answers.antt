@@ -1,9 +1,9 @@
 use Rattle.std.proofs.Common.{map, arith, refl, sym, ap, ◌∙◌}
 use Rattle.std.proofs.lemmas.Bool.{and_parts}
 use Rattle.std.specs.List.{list_all}
-use Rattle.mpl_mean.specs.FirstForm.{is_first_statement}
-use Rattle.mpl_mean.specs.StatementMeaning.{does}
-use Rattle.mpl_mean.specs.Store.{in_turn}
+use Rattle.mpl_mean.specs.FirstForms.FirstForm.{is_first_statement}
+use Rattle.mpl_mean.specs.Meaning.StatementMeaning.{does}
+use Rattle.mpl_mean.specs.Meaning.Store.{in_turn}
 use Rattle.mpl_walk.specs.Runs.{store_at}
 use Rattle.mpl_walk.proofs.Coming.{comes_stopped}
 use Rattle.mpl_walk.proofs.Lists.{next_left, none_left}

@@ -1,9 +1,9 @@
 use Rattle.std.proofs.Common.{◌≡◌, ◌≤◌, true, map, drop}
 use Rattle.std.specs.List.{list_all}
-use Rattle.mpl_mean.specs.FirstForm.{is_first_statement}
-use Rattle.mpl_mean.specs.Context.{Context}
-use Rattle.mpl_mean.specs.StatementMeaning.{does}
-use Rattle.mpl_mean.specs.Store.{Store, in_turn}
+use Rattle.mpl_mean.specs.FirstForms.FirstForm.{is_first_statement}
+use Rattle.mpl_mean.specs.Meaning.Context.{Context}
+use Rattle.mpl_mean.specs.Meaning.StatementMeaning.{does}
+use Rattle.mpl_mean.specs.Meaning.Store.{Store, in_turn}
 use Rattle.mpl_walk.specs.Held.{Whole}
 use Rattle.mpl_walk.specs.Runs.{Fits, store_at}
 use Rattle.mpl_walk.proofs.body.run_all.Given as goal

@@ -1,7 +1,7 @@
 use Rattle.std.proofs.Common.{ℕ, map, sym, ap, subst, ◌∙◌}
-use Rattle.mpl_mean.specs.BodyMeaning.{run}
-use Rattle.mpl_mean.specs.StatementMeaning.{does}
-use Rattle.mpl_mean.specs.Store.{and_then, in_turn, spend}
+use Rattle.mpl_mean.specs.Meaning.BodyMeaning.{run}
+use Rattle.mpl_mean.specs.Meaning.StatementMeaning.{does}
+use Rattle.mpl_mean.specs.Meaning.Store.{and_then, in_turn, spend}
 use Rattle.mpl_walk.specs.Runs.{Comes, store_at, with_turns}
 use Rattle.mpl_walk.proofs.Coming.{comes_stopped}
 use Rattle.mpl_walk.proofs.Running.{still_stopped}
@@ -12,10 +12,10 @@ returns c = λ context s fits.
     let p = c.args.progress.now in
     let budget = c.args.setting.now.budget in
     let xs = c.args.statements.now in
-    let here =
+    let environment =
     ap (λ (n : ℕ). and_then (spend n (store_at s p)) (λ _. in_turn (map (λ one. does one context) xs))) fits.turns
     ∙ ap (λ outcome. and_then outcome (λ _. in_turn (map (λ one. does one context) xs))) (c.in_ok-spend.ensures.spends (store_at s p)) in
-    subst (λ outcome. Comes budget (λ _. tt) outcome (store_at s c.run_all.new.progress) c.run_all.result) (sym here) (c.run_all.ensures context s fits)
+    subst (λ outcome. Comes budget (λ _. tt) outcome (store_at s c.run_all.new.progress) c.run_all.result) (sym environment) (c.run_all.ensures context s fits)
 
 pub returns-in_err-spend : goal.returns-in_err-spend
 returns-in_err-spend c = λ context s fits.

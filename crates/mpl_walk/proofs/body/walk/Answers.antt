@@ -1,7 +1,7 @@
 use Rattle.std.proofs.Common.{◌≡◌, [], rules, sym, ap, subst, ◌∙◌}
 use Rattle.mpl_value.specs.declared.body.BodyResult.TheVariants.{Open}
-use Rattle.mpl_mean.specs.BodyMeaning.{main_yield, run, yield_of}
-use Rattle.mpl_mean.specs.Store.{Store}
+use Rattle.mpl_mean.specs.Meaning.BodyMeaning.{main_yield, run, yield_of}
+use Rattle.mpl_mean.specs.Meaning.Store.{Store}
 use Rattle.mpl_walk.specs.declared.setting.Progress.{Progress}
 use Rattle.mpl_walk.specs.Held.{variables_held}
 use Rattle.mpl_walk.specs.Runs.{Fits, store_at}

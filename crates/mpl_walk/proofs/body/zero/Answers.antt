@@ -1,10 +1,10 @@
 use Rattle.std.proofs.Common.{ℕ, [], ◌∷◌, false, None, pos, ap, sym, subst, ◌∙◌}
 use Rattle.mpl_ast.specs.declared.statement.TypeName.{TypeName}
-use Rattle.mpl_mean.specs.Layout.{class_named, classes_of, words_of}
-use Rattle.mpl_mean.specs.PlaceMeaning.{is_bool}
-use Rattle.mpl_mean.specs.StatementMeaning.{zeros}
-use Rattle.mpl_mean.specs.Store.{words_at}
-use Rattle.mpl_mean.specs.Values.{Value}
+use Rattle.mpl_mean.specs.Meaning.Layout.{class_named, classes_of, words_of}
+use Rattle.mpl_mean.specs.Meaning.PlaceMeaning.{is_bool}
+use Rattle.mpl_value.specs.Words.{zeros}
+use Rattle.mpl_value.specs.Words.{words_at}
+use Rattle.mpl_mean.specs.Meaning.Values.{Value}
 use Rattle.mpl_walk.specs.Found.{IsClassOf}
 use Rattle.mpl_walk.proofs.Declaring.{no_words, one_word}
 use Rattle.mpl_walk.proofs.body.zero.Goals as goal

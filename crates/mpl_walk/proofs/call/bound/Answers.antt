@@ -1,8 +1,8 @@
 use Rattle.std.proofs.Common.{◌++◌, map, arith, refl, sym, ap, subst, ◌∙◌}
 use Rattle.std.proofs.lemmas.Bool.{and_parts}
 use Rattle.std.specs.List.{list_all}
-use Rattle.mpl_mean.specs.BodyMeaning.{formals_holding}
-use Rattle.mpl_mean.specs.CallMeaning.{known_words}
+use Rattle.mpl_mean.specs.Meaning.BodyMeaning.{formals_holding}
+use Rattle.mpl_value.specs.CallAnswers.{known_words}
 use Rattle.mpl_walk.specs.Found.{is_int_formal}
 use Rattle.mpl_walk.specs.Held.{Whole, arg_held, variables_held}
 use Rattle.mpl_walk.proofs.Binding.{bound_early, bound_end, bound_step, known_more, whole_bound}

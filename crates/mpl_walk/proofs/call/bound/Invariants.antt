@@ -1,8 +1,8 @@
 use Rattle.std.proofs.Common.{◌≡◌, ◌++◌, List, true, None, map, drop}
 use Rattle.std.specs.List.{list_all}
 use Rattle.mpl_ast.specs.declared.program.Declaration.{Declaration}
-use Rattle.mpl_mean.specs.BodyMeaning.{formals_holding}
-use Rattle.mpl_mean.specs.CallMeaning.{known_words, leftmost_trap}
+use Rattle.mpl_mean.specs.Meaning.BodyMeaning.{formals_holding}
+use Rattle.mpl_value.specs.CallAnswers.{known_words, leftmost_trap}
 use Rattle.mpl_walk.specs.Found.{is_int_formal}
 use Rattle.mpl_walk.specs.Held.{Whole, arg_held, variables_held}
 use Rattle.mpl_walk.proofs.call.bound.Given as goal

@@ -1,9 +1,9 @@
 use Rattle.std.proofs.Common.{map, sym, ap, subst, ◌∙◌}
 use Rattle.std.specs.List.{list_all}
 use Rattle.mpl_value.specs.declared.body.Arg.{Arg}
-use Rattle.mpl_mean.specs.FirstForm.{is_first_call, is_first_flow}
-use Rattle.mpl_mean.specs.CallMeaning.{passes, regular_call}
-use Rattle.mpl_mean.specs.Store.{Doing, variable_named}
+use Rattle.mpl_mean.specs.FirstForms.FirstForm.{is_first_call, is_first_flow}
+use Rattle.mpl_mean.specs.Meaning.CallMeaning.{passes, regular_call}
+use Rattle.mpl_mean.specs.Meaning.Store.{Step, variable_named}
 use Rattle.mpl_walk.specs.Held.{arg_held}
 use Rattle.mpl_walk.specs.Runs.{Comes, with_turns}
 use Rattle.mpl_walk.proofs.Calling.{on_name}
@@ -35,7 +35,7 @@ returns-in-Some-clause-gives c = λ context s fits stands.
     call_named c.args.node.now k.field-0 k.target c.in-Variable.field-0 c.in-Variable.name k.member k.arguments context t k.is c.in-Variable.is
     ∙ ap (λ n. on_name context line n k.member.text flows (variable_named n t.variables) t) (sym c.as_slice.ensures)
     ∙ ap (λ m. on_name context line name m flows (variable_named name t.variables) t) (sym c.as_slice-in-Variable.ensures)
-    ∙ ap (λ (doing : Doing Arg). doing t) got.1
+    ∙ ap (λ (step : Step Arg). step t) got.1
     ∙ ap (λ all. regular_call context got.0 (map (λ f. passes f context) all) t) (sym c.as_slice-in-Some.ensures) in
     subst (λ outcome. Comes budget arg_held outcome (with_turns s c.member_call.new.turns) c.member_call.result) (sym calls)
     (c.member_call.ensures.gives context s got.0 fits stands got.2)
@@ -51,4 +51,4 @@ returns-in-None-clause-gives c = λ context s fits stands memory.
     call_named c.args.node.now k.field-0 k.target c.in-Variable.field-0 c.in-Variable.name k.member k.arguments context t k.is c.in-Variable.is
     ∙ ap (λ n. on_name context line n k.member.text flows (variable_named n t.variables) t) (sym c.as_slice.ensures)
     ∙ ap (λ m. on_name context line name m flows (variable_named name t.variables) t) (sym c.as_slice-in-Variable.ensures)
-    ∙ ap (λ (doing : Doing Arg). doing t) got
+    ∙ ap (λ (step : Step Arg). step t) got

@@ -1,9 +1,9 @@
 use Rattle.std.proofs.Common.{refl, sym, ap, subst, map, ◌∙◌}
 use Rattle.mpl_ast.specs.declared.statement.Block.{Block}
 use Rattle.mpl_value.specs.declared.body.Arg.{Arg}
-use Rattle.mpl_mean.specs.BodyMeaning.{formals_holding}
-use Rattle.mpl_mean.specs.CallMeaning.{known_words}
-use Rattle.mpl_mean.specs.Store.{Doing, Goes}
+use Rattle.mpl_mean.specs.Meaning.BodyMeaning.{formals_holding}
+use Rattle.mpl_value.specs.CallAnswers.{known_words}
+use Rattle.mpl_mean.specs.Meaning.Store.{Step, Goes}
 use Rattle.mpl_walk.specs.Held.{Stands, arg_held}
 use Rattle.mpl_walk.specs.Runs.{with_turns}
 use Rattle.mpl_walk.proofs.Calling.{body_gives, inside}
@@ -18,7 +18,7 @@ returns-clause-gives c = λ context s found fits member.
     let stands : Stands c.as_slice.result.now fits.inner (inside vs new) =
     subst (λ all. Stands all fits.inner (inside vs new)) (sym c.as_slice.ensures)
     (record { variables = refl; stateless = fits.inner_stateless; whole = c.in_ok-variables.ensures.whole fits.inner.declarations }) in
-    ap (λ (doing : Doing Arg). doing (with_turns s old)) (fits.regular c.requires.started found words)
+    ap (λ (step : Step Arg). step (with_turns s old)) (fits.regular c.requires.started found words)
     ∙ body_gives fits.inner found words vs c.operand-value.ensures.is.0 c.operand-value.result.now c.args.setting.now.budget new (with_turns s old) c.pass.result
     fits.inner_turns (ap (λ (b : Block). b.statements) member.body ∙ c.operand-value.ensures.is.1)
     (ap (λ fs. formals_holding fs words) member.formals ∙ sym c.in_ok-variables.ensures.held)

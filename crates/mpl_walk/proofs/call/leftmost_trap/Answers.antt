@@ -1,6 +1,6 @@
 use Rattle.std.proofs.Common.{◌+◌, ◌∷◌, List, None, map, drop, arith, sym, ap, ◌∙◌}
 use Rattle.std.proofs.lemmas.List.{at_drop_more}
-use Rattle.mpl_mean.specs.CallMeaning.{leftmost_trap}
+use Rattle.mpl_value.specs.CallAnswers.{leftmost_trap}
 use Rattle.mpl_walk.specs.declared.held.Held.{Held}
 use Rattle.mpl_walk.specs.declared.held.Held.TheVariants.{Know}
 use Rattle.mpl_walk.specs.Held.{arg_held}

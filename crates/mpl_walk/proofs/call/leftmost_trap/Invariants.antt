@@ -1,5 +1,5 @@
 use Rattle.std.proofs.Common.{◌≡◌, map, drop}
-use Rattle.mpl_mean.specs.CallMeaning.{leftmost_trap}
+use Rattle.mpl_value.specs.CallAnswers.{leftmost_trap}
 use Rattle.mpl_walk.specs.Held.{arg_held}
 use Rattle.mpl_walk.proofs.call.leftmost_trap.Given as goal
 

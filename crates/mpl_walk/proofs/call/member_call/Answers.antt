@@ -1,6 +1,7 @@
 use Rattle.std.proofs.Common.{ℕ, map, sym, ap, subst, ◌∙◌}
-use Rattle.mpl_mean.specs.CallMeaning.{known_words, leftmost_trap, passes, regular_call}
-use Rattle.mpl_mean.specs.Store.{spend}
+use Rattle.mpl_value.specs.CallAnswers.{known_words, leftmost_trap}
+use Rattle.mpl_mean.specs.Meaning.CallMeaning.{passes, regular_call}
+use Rattle.mpl_mean.specs.Meaning.Store.{spend}
 use Rattle.mpl_walk.specs.Held.{arg_held}
 use Rattle.mpl_walk.specs.Runs.{Comes, with_turns}
 use Rattle.mpl_walk.proofs.Calling.{call_fires, call_trapped}
@@ -50,5 +51,5 @@ returns-clause-gives c = λ context s found fits stands member.
     (c.in_ok-arguments.ensures budget context t (stands_with _ context s c.args.turns.now stands))
     (ap (λ (n : ℕ). spend n t) fits.turns ∙ c.in_ok-spend.ensures.spends s)
     (ap (λ all. leftmost_trap (map arg_held all)) (sym c.as_slice.ensures) ∙ sym c.leftmost_trap.ensures ∙ c.in-None.is) in
-    let here = calls ∙ ap (λ all. context.below.regular found (known_words (map arg_held all)) mid) (sym c.as_slice-in-None.ensures) in
-    subst (λ outcome. Comes budget arg_held outcome (with_turns s c.fire.new.turns) c.fire.result) (sym here) (c.fire.ensures.gives context s found fits member)
+    let environment = calls ∙ ap (λ all. context.callees.regular found (known_words (map arg_held all)) mid) (sym c.as_slice-in-None.ensures) in
+    subst (λ outcome. Comes budget arg_held outcome (with_turns s c.fire.new.turns) c.fire.result) (sym environment) (c.fire.ensures.gives context s found fits member)

@@ -1,6 +1,6 @@
 use Rattle.std.proofs.Common.{[], ◌∷◌, ap, sym, ◌∙◌}
 use Rattle.mpl_ast.specs.declared.statement.Statement.{Statement}
-use Rattle.mpl_mean.specs.FirstForm.{is_one_result}
+use Rattle.mpl_mean.specs.FirstForms.FirstForm.{is_one_result}
 use Rattle.mpl_walk.proofs.Calling.{one_operand}
 use Rattle.mpl_walk.proofs.call.operand.Goals as goal
 

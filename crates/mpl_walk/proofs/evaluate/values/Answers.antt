@@ -1,10 +1,10 @@
 use Rattle.std.proofs.Common.{map, arith, rules, sym, ap, ◌∙◌}
 use Rattle.std.proofs.lemmas.Bool.{and_parts}
 use Rattle.std.specs.List.{list_all}
-use Rattle.mpl_mean.specs.FirstForm.{is_first_expression}
-use Rattle.mpl_mean.specs.ExpressionMeaning.{value_of}
-use Rattle.mpl_mean.specs.StatementMeaning.{values_of}
-use Rattle.mpl_mean.specs.Store.{all_of}
+use Rattle.mpl_mean.specs.FirstForms.FirstForm.{is_first_expression}
+use Rattle.mpl_mean.specs.Meaning.ExpressionMeaning.{value_of}
+use Rattle.mpl_mean.specs.Meaning.StatementMeaning.{values_of}
+use Rattle.mpl_mean.specs.Meaning.Store.{all_of}
 use Rattle.mpl_value.specs.declared.body.BodyEnd.TheVariants as end
 use Rattle.mpl_walk.specs.Held.{value_held}
 use Rattle.mpl_walk.specs.declared.stop.Stop.TheVariants as stop

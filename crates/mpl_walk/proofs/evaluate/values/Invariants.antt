@@ -1,10 +1,10 @@
 use Rattle.std.proofs.Common.{◌≡◌, true, map, drop}
 use Rattle.std.specs.List.{list_all}
-use Rattle.mpl_mean.specs.FirstForm.{is_first_expression}
-use Rattle.mpl_mean.specs.Context.{Context}
-use Rattle.mpl_mean.specs.ExpressionMeaning.{value_of}
-use Rattle.mpl_mean.specs.StatementMeaning.{values_of}
-use Rattle.mpl_mean.specs.Store.{Store, all_of}
+use Rattle.mpl_mean.specs.FirstForms.FirstForm.{is_first_expression}
+use Rattle.mpl_mean.specs.Meaning.Context.{Context}
+use Rattle.mpl_mean.specs.Meaning.ExpressionMeaning.{value_of}
+use Rattle.mpl_mean.specs.Meaning.StatementMeaning.{values_of}
+use Rattle.mpl_mean.specs.Meaning.Store.{Store, all_of}
 use Rattle.mpl_walk.specs.Held.{Stands, value_held}
 use Rattle.mpl_walk.proofs.Steps.{behind}
 use Rattle.mpl_walk.proofs.evaluate.values.Given as goal

@@ -1,6 +1,6 @@
 use Rattle.std.proofs.Common.{◌≡◌, List, drop}
 use Rattle.mpl_ast.specs.declared.program.Declaration.{Declaration}
-use Rattle.mpl_mean.specs.Store.{variable_named}
+use Rattle.mpl_mean.specs.Meaning.Store.{variable_named}
 use Rattle.mpl_walk.specs.Held.{Whole, variables_held}
 use Rattle.mpl_walk.proofs.held.find.Given as goal
 

@@ -1,6 +1,6 @@
 use Rattle.std.proofs.Common.{◌≡◌, true, drop}
-use Rattle.mpl_mean.specs.FirstForm.{are_first}
-use Rattle.mpl_mean.specs.BodyMeaning.{main_statements}
+use Rattle.mpl_mean.specs.FirstForms.FirstForm.{are_first}
+use Rattle.mpl_mean.specs.Meaning.BodyMeaning.{main_statements}
 use Rattle.mpl_walk.proofs.lookup.main_statements.Given as goal
 
 abbrev pub invariant-loop-declaration : goal.invariant-loop-declaration

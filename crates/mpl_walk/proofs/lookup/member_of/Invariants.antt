@@ -1,7 +1,7 @@
 use Rattle.std.proofs.Common.{◌≡◌, ℕ, true, drop}
 use Rattle.std.specs.List.{list_all}
-use Rattle.mpl_mean.specs.FirstForm.{is_first_item}
-use Rattle.mpl_mean.specs.Layout.{member_named, members_from}
+use Rattle.mpl_mean.specs.FirstForms.FirstForm.{is_first_item}
+use Rattle.mpl_mean.specs.Meaning.Layout.{member_named, members_from}
 use Rattle.mpl_walk.proofs.lookup.member_of.Given as goal
 
 abbrev pub invariant-loop-item : goal.invariant-loop-item

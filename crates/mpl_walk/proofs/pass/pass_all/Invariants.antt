@@ -1,9 +1,9 @@
 use Rattle.std.proofs.Common.{◌≡◌, true, map, drop}
 use Rattle.std.specs.List.{list_all}
-use Rattle.mpl_mean.specs.FirstForm.{is_first_flow}
-use Rattle.mpl_mean.specs.CallMeaning.{passes}
-use Rattle.mpl_mean.specs.Context.{Context}
-use Rattle.mpl_mean.specs.Store.{Store, all_of}
+use Rattle.mpl_mean.specs.FirstForms.FirstForm.{is_first_flow}
+use Rattle.mpl_mean.specs.Meaning.CallMeaning.{passes}
+use Rattle.mpl_mean.specs.Meaning.Context.{Context}
+use Rattle.mpl_mean.specs.Meaning.Store.{Store, all_of}
 use Rattle.mpl_walk.specs.Held.{Stands, arg_held}
 use Rattle.mpl_walk.proofs.Steps.{behind}
 use Rattle.mpl_walk.proofs.pass.pass_all.Given as goal

@@ -1,5 +1,5 @@
 use Rattle.std.proofs.Common.{◌≡◌, map, drop, ◌++◌}
-use Rattle.mpl_mean.specs.StatementMeaning.{line_of, texts_after_first}
+use Rattle.mpl_mean.specs.Meaning.StatementMeaning.{line_of, texts_after_first}
 use Rattle.mpl_walk.specs.Held.{value_held}
 use Rattle.mpl_walk.proofs.print.print_line.Given as goal
 

@@ -1,10 +1,10 @@
 use Rattle.std.proofs.Common.{◌≡◌, ◌∷◌, ◌∙◌, length, Some, true, ap, sym, subst, arith}
 use Rattle.mpl_ast.specs.declared.expression.Sum.{Sum}
 use Rattle.mpl_ast.specs.declared.expression.SumOperator.{SumOperator}
-use Rattle.mpl_mean.specs.ExpressionText.{sum_mark}
-use Rattle.mpl_mean.specs.Reading.{Rest, is_mark}
+use Rattle.mpl_mean.specs.Text.ExpressionText.{sum_mark}
+use Rattle.mpl_mean.specs.Text.Reading.{Rest, is_mark}
 use Rattle.mentat_cmd.specs.Ahead.{is_operand, products_behind, sums_behind, sums_ahead}
-use Rattle.mpl_mean.specs.ExpressionLevels.{sum_text}
+use Rattle.mpl_mean.specs.FirstForms.ExpressionLevels.{sum_text}
 use Rattle.mentat_cmd.specs.Reader.{rest_of, numbered}
 use Rattle.mentat_cmd.proofs.Lookahead.{sum-ahead, products_ahead-le, first-some, sign-minus}
 use Rattle.mentat_cmd.proofs.ExpressionTexts.{reads-one_term, reads-add}

@@ -2,9 +2,9 @@ use Rattle.std.proofs.Common.{◌≡◌, ◌∷◌, Some, ap, sym, subst, arith}
 use Rattle.mpl_ast.specs.declared.expression.Term.{Term}
 use Rattle.mpl_ast.specs.declared.expression.TermOperator.TheVariants.{Times}
 use Rattle.mpl_ast.specs.declared.token.Mark.TheVariants.{Star}
-use Rattle.mpl_mean.specs.Reading.{Rest}
+use Rattle.mpl_mean.specs.Text.Reading.{Rest}
 use Rattle.mentat_cmd.specs.Ahead.{products_behind, products_ahead, sums_behind, sums_ahead}
-use Rattle.mpl_mean.specs.ExpressionLevels.{term_text}
+use Rattle.mpl_mean.specs.FirstForms.ExpressionLevels.{term_text}
 use Rattle.mentat_cmd.specs.Reader.{rest_of}
 use Rattle.mentat_cmd.proofs.ExpressionTexts.{reads-multiply}
 use Rattle.mentat_cmd.proofs.Parsed.{reads-mark_on}

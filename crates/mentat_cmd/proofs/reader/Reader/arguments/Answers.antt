@@ -7,9 +7,9 @@ use Rattle.mentat_cmd.specs.Stages.{BeforeOperand, BehindExpression}
 use Rattle.mentat_cmd.specs.declared.expression.Role.TheVariants.{Printed}
 use Rattle.mpl_ast.specs.declared.token.Mark.TheVariants as mark_of
 use Rattle.mpl_ast.specs.declared.token.Token.{Token}
-use Rattle.mpl_mean.specs.ExpressionText.{expression_text}
-use Rattle.mpl_mean.specs.FirstForm.{is_first_expression}
-use Rattle.mpl_mean.specs.Reading.{mark}
+use Rattle.mpl_mean.specs.Text.ExpressionText.{expression_text}
+use Rattle.mpl_mean.specs.FirstForms.FirstForm.{is_first_expression}
+use Rattle.mpl_mean.specs.Text.Reading.{mark}
 use Rattle.mentat_cmd.proofs.reader.Reader.arguments.Goals as goal
 
 pub loop-alloc-preserved : goal.loop-alloc-preserved

@@ -4,9 +4,9 @@ use Rattle.mentat_cmd.specs.Parts.{is_light_expression}
 use Rattle.mentat_cmd.specs.Reader.{rest_of, numbered}
 use Rattle.mentat_cmd.specs.Stages.{BeforeOperand, BehindExpression, leads}
 use Rattle.mentat_cmd.specs.declared.expression.Role.TheVariants.{Printed}
-use Rattle.mpl_mean.specs.ExpressionText.{expression_text}
-use Rattle.mpl_mean.specs.FirstForm.{is_first_expression}
-use Rattle.mpl_mean.specs.Reading.{separated}
+use Rattle.mpl_mean.specs.Text.ExpressionText.{expression_text}
+use Rattle.mpl_mean.specs.FirstForms.FirstForm.{is_first_expression}
+use Rattle.mpl_mean.specs.Text.Reading.{separated}
 use Rattle.mentat_cmd.proofs.reader.Reader.arguments.Given as goal
 
 abbrev pub invariant-loop-alloc : goal.invariant-loop-alloc

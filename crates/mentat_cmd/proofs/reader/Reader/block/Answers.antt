@@ -10,7 +10,7 @@ use Rattle.mentat_cmd.specs.Reader.{rest_of}
 use Rattle.mentat_cmd.specs.Stages.{BeforeBlock, InBlock, leads}
 use Rattle.mpl_ast.specs.declared.statement.Block.{Block}
 use Rattle.mpl_ast.specs.declared.token.Mark.TheVariants as mark_of
-use Rattle.mpl_mean.specs.Reading.{Rest, is_mark}
+use Rattle.mpl_mean.specs.Text.Reading.{Rest, is_mark}
 use Rattle.mentat_cmd.proofs.reader.Reader.block.Goals as goal
 
 pub returns-then-not-sees_mark-clause-unfit : goal.returns-then-not-sees_mark-clause-unfit

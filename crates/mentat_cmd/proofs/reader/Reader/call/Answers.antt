@@ -10,9 +10,9 @@ use Rattle.mentat_cmd.specs.Ahead.{first_is, is_any_name}
 use Rattle.mentat_cmd.specs.Reader.{rest_of, at_of}
 use Rattle.mentat_cmd.specs.Stages.{BeforeReceiver, BeforeDot, BeforeCalled, BehindCalled, BeforeArguments, leads}
 use Rattle.mpl_ast.specs.declared.token.Mark.TheVariants as mark_of
-use Rattle.mpl_mean.specs.ExpressionText.{target_text}
-use Rattle.mpl_mean.specs.Reading.{Reads, ◌>>◌, is_mark, mark, name, separated_if_any}
-use Rattle.mpl_mean.specs.StatementText.{flow_text}
+use Rattle.mpl_mean.specs.Text.ExpressionText.{target_text}
+use Rattle.mpl_mean.specs.Text.Reading.{Reads, ◌>>◌, is_mark, mark, name, separated_if_any}
+use Rattle.mpl_mean.specs.Text.StatementText.{flow_text}
 use Rattle.mentat_cmd.proofs.reader.Reader.call.Goals as goal
 
 pub returns-in_err-mark-clause-unfit : goal.returns-in_err-mark-clause-unfit

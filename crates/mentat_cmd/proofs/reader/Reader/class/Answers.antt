@@ -11,8 +11,8 @@ use Rattle.mentat_cmd.specs.Reader.{rest_of}
 use Rattle.mentat_cmd.specs.Stages.{BeforeDeclaration, BeforeMentat, BeforeClassWord, BeforeClassName, BeforeItems, InClass, BehindClass, leads}
 use Rattle.mpl_ast.specs.declared.token.Keyword.TheVariants as word
 use Rattle.mpl_ast.specs.declared.token.Mark.TheVariants as mark_of
-use Rattle.mpl_mean.specs.ProgramText.{item_text, kind_text}
-use Rattle.mpl_mean.specs.Reading.{◌>>◌, is_mark, is_keyword, mark, mark_on, keyword, name, each}
+use Rattle.mpl_mean.specs.Text.ProgramText.{item_text, kind_text}
+use Rattle.mpl_mean.specs.Text.Reading.{◌>>◌, is_mark, is_keyword, mark, mark_on, keyword, name, each}
 use Rattle.mentat_cmd.proofs.reader.Reader.class.Goals as goal
 
 pub returns-in_err-keyword-clause-unfit : goal.returns-in_err-keyword-clause-unfit

@@ -4,8 +4,8 @@ use Rattle.mentat_cmd.proofs.WholeClasses.{led-classes}
 use Rattle.mentat_cmd.specs.Parts.{is_light_declaration}
 use Rattle.mentat_cmd.specs.Reader.{rest_of}
 use Rattle.mentat_cmd.specs.Stages.{BeforeDeclaration, leads}
-use Rattle.mpl_mean.specs.FirstForm.{is_class}
-use Rattle.mpl_mean.specs.ProgramText.{declaration_text}
+use Rattle.mpl_mean.specs.FirstForms.FirstForm.{is_class}
+use Rattle.mpl_mean.specs.Text.ProgramText.{declaration_text}
 use Rattle.mentat_cmd.proofs.reader.Reader.classes.Goals as goal
 
 pub loop-alloc-preserved : goal.loop-alloc-preserved

@@ -4,7 +4,7 @@ use Rattle.mentat_cmd.proofs.WholeClasses.{first-grown, led-classes}
 use Rattle.mentat_cmd.specs.Parts.{is_light_declaration}
 use Rattle.mentat_cmd.specs.Reader.{rest_of}
 use Rattle.mentat_cmd.specs.Stages.{BeforeDeclaration, leads}
-use Rattle.mpl_mean.specs.ProgramText.{declaration_text}
+use Rattle.mpl_mean.specs.Text.ProgramText.{declaration_text}
 use Rattle.mentat_cmd.proofs.reader.Reader.declarations.Goals as goal
 
 pub returns-in_err-declarations-clause-unfit : goal.returns-in_err-declarations-clause-unfit

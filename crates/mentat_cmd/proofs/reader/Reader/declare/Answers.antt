@@ -10,8 +10,8 @@ use Rattle.mentat_cmd.specs.Ahead.{first_is}
 use Rattle.mentat_cmd.specs.Reader.{rest_of, at_of}
 use Rattle.mentat_cmd.specs.Stages.{InBlock, BeforeSemicolon, leads}
 use Rattle.mpl_ast.specs.declared.token.Mark.TheVariants as mark_of
-use Rattle.mpl_mean.specs.Reading.{Reads, ◌>>◌, is_mark, mark}
-use Rattle.mpl_mean.specs.StatementText.{local_text}
+use Rattle.mpl_mean.specs.Text.Reading.{Reads, ◌>>◌, is_mark, mark}
+use Rattle.mpl_mean.specs.Text.StatementText.{local_text}
 use Rattle.mentat_cmd.proofs.reader.Reader.declare.Goals as goal
 
 pub returns-in_err-local-clause-unfit : goal.returns-in_err-local-clause-unfit

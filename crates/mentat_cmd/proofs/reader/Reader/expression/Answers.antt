@@ -5,10 +5,10 @@ use Rattle.mpl_ast.specs.declared.expression.Expression.{Expression}
 use Rattle.mpl_ast.specs.declared.expression.Expression.TheVariants as expression
 use Rattle.mpl_ast.specs.declared.expression.Relation.TheVariants as relation
 use Rattle.mpl_ast.specs.declared.expression.Sum.{Sum}
-use Rattle.mpl_mean.specs.FirstForm.{is_first_sum}
-use Rattle.mpl_mean.specs.Reading.{Rest}
+use Rattle.mpl_mean.specs.FirstForms.FirstForm.{is_first_sum}
+use Rattle.mpl_mean.specs.Text.Reading.{Rest}
 use Rattle.mentat_cmd.specs.Ahead.{operators_ahead, products_behind, sums_ahead, sums_behind}
-use Rattle.mpl_mean.specs.ExpressionLevels.{sum_text}
+use Rattle.mpl_mean.specs.FirstForms.ExpressionLevels.{sum_text}
 use Rattle.mentat_cmd.specs.Parts.{is_light_expression}
 use Rattle.mentat_cmd.specs.Reader.{rest_of, numbered, at_of}
 use Rattle.mentat_cmd.specs.Stages.{BeforeOperand, BehindExpression, brackets, leads, most_operators}

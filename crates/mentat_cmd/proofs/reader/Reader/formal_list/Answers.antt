@@ -7,9 +7,9 @@ use Rattle.mentat_cmd.specs.Stages.{BeforeFormalType, BehindFormal, leads}
 use Rattle.mpl_ast.specs.declared.class.Formal.{Formal}
 use Rattle.mpl_ast.specs.declared.token.Mark.TheVariants as mark_of
 use Rattle.mpl_ast.specs.declared.token.Token.{Token}
-use Rattle.mpl_mean.specs.FirstForm.{is_int}
-use Rattle.mpl_mean.specs.ProgramText.{formal_text}
-use Rattle.mpl_mean.specs.Reading.{mark}
+use Rattle.mpl_mean.specs.FirstForms.FirstForm.{is_int}
+use Rattle.mpl_mean.specs.Text.ProgramText.{formal_text}
+use Rattle.mpl_mean.specs.Text.Reading.{mark}
 use Rattle.mentat_cmd.proofs.reader.Reader.formal_list.Goals as goal
 
 pub loop-alloc-preserved : goal.loop-alloc-preserved

@@ -2,9 +2,9 @@ use Rattle.std.proofs.Common.{◌≡◌, ◌<◌, ◌≤◌, ◌+◌, Some, map,
 use Rattle.std.specs.List.{list_all}
 use Rattle.mentat_cmd.specs.Reader.{rest_of, numbered}
 use Rattle.mpl_ast.specs.declared.class.Formal.{Formal}
-use Rattle.mpl_mean.specs.FirstForm.{is_int}
-use Rattle.mpl_mean.specs.ProgramText.{formal_text}
-use Rattle.mpl_mean.specs.Reading.{separated}
+use Rattle.mpl_mean.specs.FirstForms.FirstForm.{is_int}
+use Rattle.mpl_mean.specs.Text.ProgramText.{formal_text}
+use Rattle.mpl_mean.specs.Text.Reading.{separated}
 use Rattle.mentat_cmd.proofs.reader.Reader.formal_list.Given as goal
 
 abbrev pub invariant-loop-alloc : goal.invariant-loop-alloc

@@ -5,7 +5,7 @@ use Rattle.mentat_cmd.specs.Ahead.{first_is}
 use Rattle.mentat_cmd.specs.Reader.{rest_of}
 use Rattle.mentat_cmd.specs.Stages.{BeforeFormalType, leads}
 use Rattle.mpl_ast.specs.declared.token.Mark.TheVariants as mark_of
-use Rattle.mpl_mean.specs.Reading.{is_mark}
+use Rattle.mpl_mean.specs.Text.Reading.{is_mark}
 use Rattle.mentat_cmd.proofs.reader.Reader.formals.Goals as goal
 
 pub returns-in_err-formals-clause-unfit : goal.returns-in_err-formals-clause-unfit

@@ -9,8 +9,8 @@ use Rattle.mentat_cmd.specs.Ahead.{first_is}
 use Rattle.mentat_cmd.specs.Reader.{rest_of}
 use Rattle.mentat_cmd.specs.Stages.{BeforeDeclaration, BeforeMain, BeforeOpen, BeforeClose, BeforeBlock, leads}
 use Rattle.mpl_ast.specs.declared.token.Mark.TheVariants as mark_of
-use Rattle.mpl_mean.specs.Reading.{◌>>◌, is_mark, is_name, mark, name, nothing}
-use Rattle.mpl_mean.specs.StatementText.{block_text, type_text}
+use Rattle.mpl_mean.specs.Text.Reading.{◌>>◌, is_mark, is_name, mark, name, nothing}
+use Rattle.mpl_mean.specs.Text.StatementText.{block_text, type_text}
 use Rattle.mentat_cmd.proofs.reader.Reader.main.Goals as goal
 
 pub returns-then-not-sees_keyword-clause-unfit : goal.returns-then-not-sees_keyword-clause-unfit

@@ -9,9 +9,9 @@ use Rattle.mentat_cmd.specs.Ahead.{first_is, is_any_name}
 use Rattle.mentat_cmd.specs.Reader.{rest_of}
 use Rattle.mentat_cmd.specs.Stages.{InClass, BeforeMember, BeforeFormals, InFormals, BeforeBody, leads}
 use Rattle.mpl_ast.specs.declared.token.Mark.TheVariants as mark_of
-use Rattle.mpl_mean.specs.ProgramText.{formals_text, result_text}
-use Rattle.mpl_mean.specs.Reading.{◌>>◌, is_mark, mark, name, optional}
-use Rattle.mpl_mean.specs.StatementText.{block_text}
+use Rattle.mpl_mean.specs.Text.ProgramText.{formals_text, result_text}
+use Rattle.mpl_mean.specs.Text.Reading.{◌>>◌, is_mark, mark, name, optional}
+use Rattle.mpl_mean.specs.Text.StatementText.{block_text}
 use Rattle.mentat_cmd.proofs.reader.Reader.member.Goals as goal
 
 pub returns-in_err-name-clause-unfit : goal.returns-in_err-name-clause-unfit

@@ -4,8 +4,8 @@ use Rattle.mentat_cmd.proofs.WholeClasses.{led-items}
 use Rattle.mentat_cmd.specs.Parts.{is_light_item}
 use Rattle.mentat_cmd.specs.Reader.{rest_of}
 use Rattle.mentat_cmd.specs.Stages.{InClass, leads}
-use Rattle.mpl_mean.specs.FirstForm.{is_first_item}
-use Rattle.mpl_mean.specs.ProgramText.{item_text}
+use Rattle.mpl_mean.specs.FirstForms.FirstForm.{is_first_item}
+use Rattle.mpl_mean.specs.Text.ProgramText.{item_text}
 use Rattle.mentat_cmd.proofs.reader.Reader.members.Goals as goal
 
 pub loop-alloc-preserved : goal.loop-alloc-preserved

@@ -2,9 +2,9 @@ use Rattle.std.proofs.Common.{◌≡◌, ◌≤◌, Some, map, length, true}
 use Rattle.std.specs.List.{list_all}
 use Rattle.mentat_cmd.specs.Parts.{is_light_item}
 use Rattle.mentat_cmd.specs.Reader.{rest_of, numbered}
-use Rattle.mpl_mean.specs.FirstForm.{is_first_item}
-use Rattle.mpl_mean.specs.ProgramText.{item_text}
-use Rattle.mpl_mean.specs.Reading.{each}
+use Rattle.mpl_mean.specs.FirstForms.FirstForm.{is_first_item}
+use Rattle.mpl_mean.specs.Text.ProgramText.{item_text}
+use Rattle.mpl_mean.specs.Text.Reading.{each}
 use Rattle.mentat_cmd.proofs.reader.Reader.members.Given as goal
 
 abbrev pub invariant-loop-alloc : goal.invariant-loop-alloc

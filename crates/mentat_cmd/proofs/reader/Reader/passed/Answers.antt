@@ -7,9 +7,9 @@ use Rattle.mentat_cmd.specs.Stages.{BeforeOperand, BehindExpression}
 use Rattle.mentat_cmd.specs.declared.expression.Role.TheVariants.{Passed}
 use Rattle.mpl_ast.specs.declared.token.Mark.TheVariants as mark_of
 use Rattle.mpl_ast.specs.declared.token.Token.{Token}
-use Rattle.mpl_mean.specs.FirstForm.{is_first_flow}
-use Rattle.mpl_mean.specs.Reading.{mark}
-use Rattle.mpl_mean.specs.StatementText.{flow_text}
+use Rattle.mpl_mean.specs.FirstForms.FirstForm.{is_first_flow}
+use Rattle.mpl_mean.specs.Text.Reading.{mark}
+use Rattle.mpl_mean.specs.Text.StatementText.{flow_text}
 use Rattle.mentat_cmd.proofs.reader.Reader.passed.Goals as goal
 
 pub loop-alloc-preserved : goal.loop-alloc-preserved

@@ -4,9 +4,9 @@ use Rattle.mentat_cmd.specs.Parts.{is_light_flow}
 use Rattle.mentat_cmd.specs.Reader.{rest_of, numbered}
 use Rattle.mentat_cmd.specs.Stages.{BeforeOperand, BehindExpression, leads}
 use Rattle.mentat_cmd.specs.declared.expression.Role.TheVariants.{Passed}
-use Rattle.mpl_mean.specs.FirstForm.{is_first_flow}
-use Rattle.mpl_mean.specs.Reading.{separated}
-use Rattle.mpl_mean.specs.StatementText.{flow_text}
+use Rattle.mpl_mean.specs.FirstForms.FirstForm.{is_first_flow}
+use Rattle.mpl_mean.specs.Text.Reading.{separated}
+use Rattle.mpl_mean.specs.Text.StatementText.{flow_text}
 use Rattle.mentat_cmd.proofs.reader.Reader.passed.Given as goal
 
 abbrev pub invariant-loop-alloc : goal.invariant-loop-alloc

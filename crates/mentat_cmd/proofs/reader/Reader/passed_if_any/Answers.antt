@@ -4,7 +4,7 @@ use Rattle.mentat_cmd.specs.Ahead.{first_is}
 use Rattle.mentat_cmd.specs.Stages.{BeforeOperand, leads}
 use Rattle.mentat_cmd.specs.declared.expression.Role.TheVariants.{Passed}
 use Rattle.mpl_ast.specs.declared.token.Mark.TheVariants as mark_of
-use Rattle.mpl_mean.specs.Reading.{is_mark}
+use Rattle.mpl_mean.specs.Text.Reading.{is_mark}
 use Rattle.mentat_cmd.proofs.reader.Reader.passed_if_any.Goals as goal
 
 pub returns-in_err-arguments-clause-unfit : goal.returns-in_err-arguments-clause-unfit

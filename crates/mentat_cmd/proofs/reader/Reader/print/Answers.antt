@@ -9,7 +9,7 @@ use Rattle.mentat_cmd.specs.Stages.{InBlock, BehindPrint, BeforeSemicolon, Befor
 use Rattle.mentat_cmd.specs.declared.expression.Role.TheVariants.{Printed}
 use Rattle.mpl_ast.specs.declared.token.Keyword.TheVariants as word
 use Rattle.mpl_ast.specs.declared.token.Mark.TheVariants as mark_of
-use Rattle.mpl_mean.specs.Reading.{Rest, is_mark}
+use Rattle.mpl_mean.specs.Text.Reading.{Rest, is_mark}
 use Rattle.mentat_cmd.proofs.reader.Reader.print.Goals as goal
 
 pub returns-in_err-mark-clause-unfit : goal.returns-in_err-mark-clause-unfit

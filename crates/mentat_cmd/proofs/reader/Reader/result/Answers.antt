@@ -5,7 +5,7 @@ use Rattle.mentat_cmd.specs.Ahead.{first_is, is_any_name}
 use Rattle.mentat_cmd.specs.Reader.{rest_of}
 use Rattle.mentat_cmd.specs.Stages.{BeforeResult, BeforeAssign, BeforeReceiver, leads}
 use Rattle.mpl_ast.specs.declared.token.Mark.TheVariants as mark_of
-use Rattle.mpl_mean.specs.Reading.{is_mark}
+use Rattle.mpl_mean.specs.Text.Reading.{is_mark}
 use Rattle.mentat_cmd.proofs.reader.Reader.result.Goals as goal
 
 pub returns-then-not-sees_any_name-clause-unfit : goal.returns-then-not-sees_any_name-clause-unfit

@@ -11,8 +11,8 @@ use Rattle.mentat_cmd.specs.Stages.{BeforeRtf, BehindRtf, BehindResult, BeforeBo
 use Rattle.mentat_cmd.specs.declared.expression.Role.TheVariants.{Returned}
 use Rattle.mpl_ast.specs.declared.token.Keyword.TheVariants as word
 use Rattle.mpl_ast.specs.declared.token.Mark.TheVariants as mark_of
-use Rattle.mpl_mean.specs.Reading.{Reads, Rest, ◌>>◌, is_mark, is_keyword, mark, keyword}
-use Rattle.mpl_mean.specs.StatementText.{flow_text}
+use Rattle.mpl_mean.specs.Text.Reading.{Reads, Rest, ◌>>◌, is_mark, is_keyword, mark, keyword}
+use Rattle.mpl_mean.specs.Text.StatementText.{flow_text}
 use Rattle.mentat_cmd.proofs.reader.Reader.rtf.Goals as goal
 
 pub returns-then-not-sees_keyword-clause-unfit : goal.returns-then-not-sees_keyword-clause-unfit

@@ -4,7 +4,7 @@ use Rattle.mentat_cmd.proofs.Led.{leads-not}
 use Rattle.mentat_cmd.specs.Reader.{rest_of}
 use Rattle.mentat_cmd.specs.Stages.{BeforeFormalType, BeforeFormal, leads}
 use Rattle.mpl_ast.specs.declared.token.Keyword.TheVariants as word
-use Rattle.mpl_mean.specs.Reading.{is_keyword}
+use Rattle.mpl_mean.specs.Text.Reading.{is_keyword}
 use Rattle.mentat_cmd.proofs.reader.Reader.some_formals.Goals as goal
 
 pub returns-then-not-sees_keyword-clause-unfit : goal.returns-then-not-sees_keyword-clause-unfit

@@ -4,8 +4,8 @@ use Rattle.mentat_cmd.proofs.Whole.{led-each}
 use Rattle.mentat_cmd.specs.Parts.{is_light_statement}
 use Rattle.mentat_cmd.specs.Reader.{rest_of}
 use Rattle.mentat_cmd.specs.Stages.{InBlock, leads}
-use Rattle.mpl_mean.specs.FirstForm.{is_first_statement}
-use Rattle.mpl_mean.specs.StatementText.{statement_text}
+use Rattle.mpl_mean.specs.FirstForms.FirstForm.{is_first_statement}
+use Rattle.mpl_mean.specs.Text.StatementText.{statement_text}
 use Rattle.mentat_cmd.proofs.reader.Reader.statements.Goals as goal
 
 pub loop-alloc-preserved : goal.loop-alloc-preserved

@@ -1,0 +1,2 @@
+-- A refusal names the least failure.
+pub mod LeastFailure

@@ -1,0 +1,19 @@
+-- Small programs, computed.
+pub mod OpenTrees
+pub mod OpenedBodies
+pub mod OpenedExpressions
+pub mod OpenedStatements
+pub mod WorkedRun
+pub mod WorkedTokens
+pub mod Shown
+pub mod Expressions
+pub mod Statements
+pub mod Programs
+pub mod WorkedNames
+pub mod WorkedDeclarations
+pub mod WorkedClasses
+pub mod WorkedOperands
+pub mod WorkedCalls
+pub mod WorkedStatements
+pub mod WorkedPrograms
+pub mod WorkedLimits

@@ -1,0 +1,2 @@
+-- A source has no more tokens than bytes.
+pub mod TokenCount

@@ -1,0 +1,3 @@
+-- The programs of the first form.
+pub mod FirstForm
+pub mod ExpressionLevels

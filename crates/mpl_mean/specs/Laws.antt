@@ -1,0 +1,2 @@
+-- The words of the laws on what programs do.
+pub mod Sizes
