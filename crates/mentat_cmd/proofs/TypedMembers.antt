@@ -24,7 +24,8 @@ use Rattle.mpl_mean.specs.TypeRules.Expr.{expr_of_flow}
 use Rattle.mpl_mean.specs.TypeRules.ProgramNodes.{routine_nodes}
 use Rattle.mpl_mean.specs.TypeRules.Rules.{rule}
 use Rattle.mpl_mean.specs.TypeRules.Scopes.{Environment, InMember, Surrounding, at_top, in_body, in_class}
-use Rattle.mpl_mean.specs.TypeRules.SizeRules.{most_formals, most_words_of_variables, variables_fit}
+use Rattle.mpl_mean.specs.TypeRules.SizeRules.{variables_fit}
+use Rattle.mpl_mean.specs.Limits.{most_formals, most_words_of_variables}
 use Rattle.mpl_mean.specs.TypeRules.StatementNodes.{stmt_walk, stmts_walk, locals_among}
 use Rattle.mpl_mean.specs.TypeRules.Types.{AsFormal, Declared, InState, OfInt, OneValue, declared_fields, declared_formals, first_named, meant, shape_of_meant, words_of_meant, words_of_variables}
 use Rattle.mpl_mean.proofs.SevenRules.FirstStmts.{flow_is_first}

@@ -24,7 +24,8 @@ use Rattle.mpl_mean.specs.TypeRules.Nodes as node
 use Rattle.mpl_mean.specs.TypeRules.ProgramNodes.{Before, declaration_at, declaration_nodes, declared_name, formal_nodes, item_nodes, outline_nodes, parts_nodes, result_nodes, surrounding}
 use Rattle.mpl_mean.specs.TypeRules.Rules.{rule}
 use Rattle.mpl_mean.specs.TypeRules.Scopes.{Environment, at_top, in_class, is_main}
-use Rattle.mpl_mean.specs.TypeRules.SizeRules.{count_is_allowed, most_declarations, most_formals, most_members}
+use Rattle.mpl_mean.specs.TypeRules.SizeRules.{count_is_allowed}
+use Rattle.mpl_mean.specs.Limits.{most_declarations, most_formals, most_members}
 use Rattle.mpl_mean.specs.TypeRules.StatementNodes.{type_at}
 use Rattle.mpl_mean.specs.TypeRules.Types.{AsFormal, AsResult, Role}
 use Rattle.mpl_mean.proofs.SevenRules.FirstTypes.{AreFirstItems}

@@ -17,7 +17,8 @@ use Rattle.mpl_mean.specs.Meaning.Layout.{formals_of}
 use Rattle.mpl_mean.specs.TypeRules.ProgramNodes.{Inside, OfRoutine, environments, inner_nodes, inners, inside_declaration, inside_item, insides, nodes, nodes_inside, outline_nodes, surrounding}
 use Rattle.mpl_mean.specs.TypeRules.Rules.{is_empty, is_typed, rule}
 use Rattle.mpl_mean.specs.TypeRules.Scopes.{Body, Surrounding, InFunction, InMain, at_top, in_body, in_class, is_main}
-use Rattle.mpl_mean.specs.TypeRules.SizeRules.{most_declarations, most_formals, most_members, most_words_of_variables, variables_fit}
+use Rattle.mpl_mean.specs.TypeRules.SizeRules.{variables_fit}
+use Rattle.mpl_mean.specs.Limits.{most_declarations, most_formals, most_members, most_words_of_variables}
 use Rattle.mpl_mean.specs.TypeRules.StatementNodes.{locals_among}
 use Rattle.mpl_mean.specs.TypeRules.Types.{words_of_variables}
 use Rattle.mpl_mean.proofs.SevenRules.FirstPrograms.{first_form_failures}

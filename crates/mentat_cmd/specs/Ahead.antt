@@ -1,5 +1,5 @@
 -- What stands ahead in a list of tokens, and how many operators an expression has there.
-use Rattle.std.specs.Prelude.{ℕ, ◌+◌, Bool, true, false, ◌&&◌, ◌||◌, List, [], ◌∷◌, if◌then◌else◌}
+use Rattle.std.specs.Prelude.{ℕ, ◌+◌, Bool, true, false, ◌&&◌, ◌||◌, List, [], ◌∷◌, if◌then◌else◌, int_le, pos}
 use Rattle.mpl_ast.specs.declared.token.Keyword.TheVariants as word
 use Rattle.mpl_ast.specs.declared.token.Mark.TheVariants as m
 use Rattle.mpl_ast.specs.declared.token.Token.{Token}
@@ -9,7 +9,7 @@ use Rattle.mpl_mean.specs.Text.Reading.{is_keyword, is_mark}
 
 abbrev pub is_any_number : TokenKind → Bool
 is_any_number (kind.Name text) = false
-is_any_number (kind.Number value) = true
+is_any_number (kind.Number value) = int_le (pos 0) value
 is_any_number (kind.Keyword k) = false
 is_any_number (kind.Mark m) = false
 

@@ -24,7 +24,7 @@ use Rattle.mpl_mean.specs.FirstForms.FirstForm.{is_int}
 use Rattle.mpl_mean.specs.Meaning.Layout.{formals_of}
 use Rattle.mpl_mean.specs.TypeRules.Expr.{Expr, expr_of, expr_of_flow}
 use Rattle.mpl_mean.specs.TypeRules.Expr as expr
-use Rattle.mpl_mean.specs.TypeRules.SizeRules.{most_words_of_variables}
+use Rattle.mpl_mean.specs.Limits.{most_words_of_variables}
 use Rattle.mentat_cmd.specs.Scope.{Kind, ANumber, AnObject, Scope, no_variable, is_number, declare, bound}
 
 -- ---- expressions

@@ -10,7 +10,7 @@ use Rattle.mpl_ast.specs.declared.program.Declaration.TheVariants as declaration
 use Rattle.mpl_mean.specs.Meaning.Layout.{formals_of}
 use Rattle.mpl_mean.specs.TypeRules.ProgramNodes.{declared_name}
 use Rattle.mpl_mean.specs.TypeRules.Scopes.{is_main}
-use Rattle.mpl_mean.specs.TypeRules.SizeRules.{most_declarations, most_formals, most_members}
+use Rattle.mpl_mean.specs.Limits.{most_declarations, most_formals, most_members}
 
 abbrev pub is_new : List (List ℕ) → List ℕ → Bool
 is_new earlier name = not (list_any (bytes_eq name) earlier)

@@ -51,7 +51,7 @@ fn has_any_name(token: &Token) -> bool
 fn is_number(token: &Token) -> bool
     ensures { result ≡ spec.is_any_number token.now.kind }
 {
-    matches!(token.kind, TokenKind::Number(_))
+    matches!(token.kind, TokenKind::Number(value) if value >= 0)
 }
 
 fn is_operand(token: &Token) -> bool

@@ -1,5 +1,5 @@
 ghost use Rattle.std.specs.Prelude.{◌≡◌};
-ghost use Rattle.mpl_mean.specs.Accepted.{IsAccepted};
+ghost use Rattle.mpl_mean.specs.Accepted.{IsAcceptable};
 
 use mpl_ast::program::Program;
 use std::marker::Model;
@@ -13,7 +13,7 @@ pub struct Typed {
 
 impl Model for Typed {
     ghost use Rattle.mpl_ast.specs.declared.program.Program.{Program};
-    ghost use Rattle.mpl_mean.specs.Accepted.{IsAccepted};
+    ghost use Rattle.mpl_mean.specs.Accepted.{IsAcceptable};
     ghost use Rattle.std.specs.Coded.{codes};
     ghost use Rattle.mpl_ast.specs.contracts.expression.Expression as expression;
     ghost use Rattle.mpl_ast.specs.contracts.flow.Flow as flow;
@@ -25,13 +25,13 @@ impl Model for Typed {
 
     ghost view = { λ t. t.program };
 
-    ghost invariant = { λ t. IsAccepted t.program };
+    ghost invariant = { λ t. IsAcceptable t.program };
 }
 
 impl Typed {
     /// The program, which is accepted, as one that is known to be.
     pub fn of(program: Program) -> Typed
-        requires { IsAccepted program }
+        requires { IsAcceptable program }
         ensures { result ≡ program }
     {
         Typed { program }
@@ -39,7 +39,7 @@ impl Typed {
 
     pub fn program(&self) -> &Program
         ensures same { result.now ≡ self.now }
-        ensures accepted { IsAccepted result.now }
+        ensures accepted { IsAcceptable result.now }
     {
         &self.program
     }

@@ -65,7 +65,7 @@ name_is text (kind.Mark m) h = absurd cc
 
 pub number_is : (value : ℤ) (k : TokenKind) → is_number value k ≡ true → k ≡ kind.Number value
 number_is value (kind.Name text) h = absurd cc
-number_is value (kind.Number other) h = ap kind.Number ((Decides-int_eq other value).0 h)
+number_is value (kind.Number other) h = ap kind.Number ((Decides-int_eq other value).0 (both_true _ _ h).1)
 number_is value (kind.Keyword v) h = absurd cc
 number_is value (kind.Mark m) h = absurd cc
 

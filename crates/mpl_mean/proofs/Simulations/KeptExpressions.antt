@@ -76,15 +76,13 @@ module _ (S : Simulation) (b c : Callees) (d : BelowBeside S b c) where
   or_kept : (left right : Evaluates) → Keeps left → Keeps right → (at : At) (line : ℕ) → Keeps (expression_step (Expression-F.Or at line left right))
   or_kept left right l r at line = record {
     at = λ x.
-        goes_on_same S (left (first S b x)) (left (second S c x)) _ _ (l.at x) (λ u. if_kept S (is_true u) _ _ _ _ (gives_same S _)
-        (goes_on_same S (right (first S b x)) (right (second S c x)) _ _ (r.at x) (λ v. gives_same S _)));
+        goes_on_same S (left (first S b x)) (left (second S c x)) _ _ (l.at x) (λ u. if_kept S (is_true u) _ _ _ _ (gives_same S _) (r.at x));
   }
 
   and_kept : (left right : Evaluates) → Keeps left → Keeps right → (at : At) (line : ℕ) → Keeps (conjunction_step (Conjunction-F.And at line left right))
   and_kept left right l r at line = record {
     at = λ x.
-        goes_on_same S (left (first S b x)) (left (second S c x)) _ _ (l.at x) (λ u. if_kept S (is_true u) _ _ _ _
-        (goes_on_same S (right (first S b x)) (right (second S c x)) _ _ (r.at x) (λ v. gives_same S _)) (gives_same S _));
+        goes_on_same S (left (first S b x)) (left (second S c x)) _ _ (l.at x) (λ u. if_kept S (is_true u) _ _ _ _ (r.at x) (gives_same S _));
   }
 
   -- ---- the folds, and what is shown of each tree

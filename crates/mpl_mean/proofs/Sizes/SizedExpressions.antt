@@ -30,7 +30,7 @@ use Rattle.mpl_mean.proofs.Sizes.SizedSettings.{Matches, PlainFits, Setting, Sou
 use Rattle.mpl_mean.proofs.Sizes.SizedSteps.{Frame, Keeps, computes, from_premise, give_keeps, if_keeps, so_keeps, stop_keeps, then_keeps}
 use Rattle.mpl_mean.proofs.Sizes.SizedStores.{inputs_keeps}
 use Rattle.mpl_mean.proofs.Sizes.SizedTyping.{chosen_function, element_size, type_there, whole_size}
-use Rattle.mpl_mean.proofs.Sizes.SizedTypes.{HasSize, WellProgram, binary_size, own_size, size, type_words, unary_size}
+use Rattle.mpl_mean.proofs.Sizes.SizedTypes.{HasSize, WellProgram, binary_size, logic_size, own_size, size, type_words, unary_size}
 use Rattle.mpl_mean.proofs.Truth.{some_is}
 
 -- ---- places
@@ -92,6 +92,10 @@ module _ (G : Frame) (S : Setting) (s : Sound G S) (blocks : List (List Declared
   both at o p q m n k r h i e =
       subst (λ k. HasSize G.declarations (type_of (environment G S blocks) (expr.Binary at o p q)) k) (sym e)
       (binary_size G.declarations o (type_of (environment G S blocks) p) (type_of (environment G S blocks) q) m n h i (r.1).0.operands)
+
+  right : (at : ℕ) (p q : Expr) (m n : ℕ) → Ready (expr.Binary at expr.Logic p q) → HasSize G.declarations (type_of (environment G S blocks) p) m
+      → HasSize G.declarations (type_of (environment G S blocks) q) n → HasSize G.declarations (type_of (environment G S blocks) (expr.Binary at expr.Logic p q)) n
+  right at p q m n r h i = logic_size G.declarations (type_of (environment G S blocks) p) (type_of (environment G S blocks) q) m n h i (r.1).0.operands
 
   each_ready : (p : Expr) (ps : Exprs) → ReadyEach (expr.MoreExprs p ps) → Ready p × ReadyEach ps
   each_ready p ps r = (
@@ -181,11 +185,11 @@ module _ (G : Frame) (S : Setting) (s : Sound G S) (blocks : List (List Declared
     value_keeps (or {p = p} {q = q} at m n) =
         then_keeps G vs (from_premise G vs (left_ready at expr.Logic p q) (value_keeps m)) (λ a.
         if_keeps G vs (is_true a) (give_keeps G vs _ (λ r. one at p q _ r.0 (type_there G S s.well blocks vs n (right_ready at expr.Logic p q r.0)) r.1))
-        (then_keeps G vs (from_premise G vs (λ r. right_ready at expr.Logic p q r.0) (value_keeps n)) (λ b. give_keeps G vs _ (λ r. both at expr.Logic p q _ _ 1 r.0.0 r.0.1 r.1 refl))))
+        (so_keeps G vs (λ r. right_ready at expr.Logic p q r.0) (λ b r e. right at p q _ _ r.0 r.1 e) (value_keeps n)))
     value_keeps (and {p = p} {q = q} at m n) =
         then_keeps G vs (from_premise G vs (left_ready at expr.Logic p q) (value_keeps m)) (λ a.
         if_keeps G vs (is_true a)
-        (then_keeps G vs (from_premise G vs (λ r. right_ready at expr.Logic p q r.0) (value_keeps n)) (λ b. give_keeps G vs _ (λ r. both at expr.Logic p q _ _ 1 r.0.0 r.0.1 r.1 refl)))
+        (so_keeps G vs (λ r. right_ready at expr.Logic p q r.0) (λ b r e. right at p q _ _ r.0 r.1 e) (value_keeps n))
         (give_keeps G vs _ (λ r. one at p q _ r.0 (type_there G S s.well blocks vs n (right_ready at expr.Logic p q r.0)) r.1)))
 
     pub each_keeps : {fs : List Evaluates} {ps : Exprs} → MeansEach fs ps

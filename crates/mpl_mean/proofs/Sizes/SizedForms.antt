@@ -46,10 +46,10 @@ mutual
     equates : {v w : Evaluates} {p q : Expr} {m n : MayName} (at : ℕ) (o : ℤ → ℤ → Bool) → Means v p m → Means w q n
         → Means (test_of o v w) (expr.Binary at expr.Equality p q) None
     or : {v w : Evaluates} {p q : Expr} {m n : MayName} (at : ℕ) → Means v p m → Means w q n
-        → Means (λ context. v context >>= (λ a. if is_true a then pure (bool_value true) else (w context >>= (λ b. pure (bool_value (is_true b))))))
+        → Means (λ context. v context >>= (λ a. if is_true a then pure (bool_value true) else w context))
         (expr.Binary at expr.Logic p q) None
     and : {v w : Evaluates} {p q : Expr} {m n : MayName} (at : ℕ) → Means v p m → Means w q n
-        → Means (λ context. v context >>= (λ a. if is_true a then (w context >>= (λ b. pure (bool_value (is_true b)))) else pure (bool_value false)))
+        → Means (λ context. v context >>= (λ a. if is_true a then w context else pure (bool_value false)))
         (expr.Binary at expr.Logic p q) None
 
   pub data MeansEach : List Evaluates → Exprs → Type 0 where

@@ -10,13 +10,14 @@ use Rattle.mpl_ast.specs.declared.program.Declaration.TheVariants as declaration
 use Rattle.mpl_ast.specs.declared.statement.Dimension.{Dimension}
 use Rattle.mpl_ast.specs.declared.statement.TypeName.{TypeName}
 use Rattle.mpl_ast.specs.declared.statement.TypeName.TheVariants as type
+use Rattle.mpl_mean.proofs.Truth.{both_true}
 use Rattle.mpl_mean.specs.TypeRules.ExpressionRules.{binary_agrees, unary_agrees}
 use Rattle.mpl_mean.specs.Meaning.Layout.{class_named, classes_of, dimension_of, is_regular, struct_named, words_of, words_of_class, words_of_named, words_of_word}
 use Rattle.mpl_mean.specs.TypeRules.Expr.{Operation, Arithmetic, Comparison, Equality, Logic}
 use Rattle.mpl_mean.specs.TypeRules.Scopes.{Body, InMember, Surrounding, is_in_member, is_persistent}
 use Rattle.mpl_mean.specs.TypeRules.Scopes as scope
 use Rattle.mpl_mean.specs.Laws.Sizes.{Every}
-use Rattle.mpl_mean.specs.TypeRules.Types.{AClass, ABool, AnInt, AStruct, Declared, InStruct, Meant, Role, ValueType, OfBool, OfClass, OfInt, OfStruct, Shape, AnArray, ARegular, OneValue, agree, declared_fields, is_field, is_local, meant, meant_by, same_type, shape_of_meant, shape_with, value_type}
+use Rattle.mpl_mean.specs.TypeRules.Types.{AClass, ABool, AnInt, AStruct, Declared, InStruct, Meant, Role, ValueType, OfBool, OfClass, OfInt, OfStruct, Shape, AnArray, ARegular, OneValue, agree, declared_fields, is_field, is_local, meant, meant_by, same_type, shape_of_meant, shape_with, value_type, is_bool}
 use Rattle.mpl_mean.specs.TypeRules.Types as types
 use Rattle.mpl_mean.specs.TypeRules.Typing.{outcome, takes, takes_both, type_of_binary, type_of_own, type_of_unary}
 use Rattle.mpl_mean.proofs.Sizes.SizedClasses.{ClassFound, NamesDiffer, bytes_same, class_found}
@@ -108,6 +109,14 @@ pub binary_size : (ds : List Declaration) (o : Operation) (s t : Option ValueTyp
 binary_size ds o None t m n h k e = absurd h
 binary_size ds o (Some s) None m n h k e = absurd k
 binary_size ds o (Some s) (Some t) m n h k e = chosen_size ds o (takes_both o s t) e
+
+-- what `&&` and `||` take over from their right operand has the size of their own value
+pub logic_size : (ds : List Declaration) (s t : Option ValueType) (m n : ℕ) → HasSize ds s m → HasSize ds t n → binary_agrees Logic s t ≡ true → HasSize ds (type_of_binary Logic s t) n
+logic_size ds None t m n h k e = absurd h
+logic_size ds (Some s) None m n h k e = absurd k
+logic_size ds (Some s) (Some t) m n h k e =
+    subst (HasSize ds (type_of_binary Logic (Some s) (Some t))) (same_size ds OfBool t (both_true (is_bool s) (is_bool t) e).1 ∙ sym k)
+    (chosen_size ds Logic (takes_both Logic s t) e)
 
 -- `self`, where it may stand
 pub own_size : (ds : List Declaration) (body : Body) (class : Option Surrounding) → (is_in_member body && is_persistent class) ≡ true → HasSize ds (type_of_own body class) 1

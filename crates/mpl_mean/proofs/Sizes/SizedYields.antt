@@ -185,7 +185,7 @@ module _ (ds : List Declaration) (well : WellProgram ds) (replies : FinMap nat_c
 
   found_yields : (id : MemberId) (found : Option (Class × Member)) → member_of_id ds id ≡ found → MemberFits ds start found → Every (CallReplyFits ds replies) (member_body context start found).calls
       → YieldFits ds (option_map (λ (found : Class × Member). words_of_result ds found.1.result) found) (length start.state) (member_body context start found)
-  found_yields id None e words fit = record { made = tt; given = tt; kept = refl }
+  found_yields id None e words fit = absurd words
   found_yields id (Some found) e words fit = member_yields found (class_numbered ds id.0 found 0 0 [] ds well.differ well.each e) words.0 words.1 fit
 
   pub body_yields : (member : Option MemberId) → WordsFit ds start member → Every (CallReplyFits ds replies) (body_of context start member).calls

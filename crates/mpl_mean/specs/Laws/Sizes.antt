@@ -52,7 +52,7 @@ member_of_id ds id = member_of_classes id.0 (classes_of ds)
 
 -- as many words as the formals of the member and the state of its object have; `main` has neither
 abbrev pub MemberFits : List Declaration → BodyStart → Option (Class × Member) → Type 0
-MemberFits ds start None = Unit {0}
+MemberFits ds start None = ⊥
 MemberFits ds start (Some found) =
     (length start.args ≡ words_of_formals ds found.1.formals) × (length start.state ≡ words_of_object ds found.0)
 

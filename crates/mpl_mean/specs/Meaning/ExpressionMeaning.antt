@@ -88,11 +88,11 @@ element_of line array index =
 
 abbrev pub expression_step : Expression-F Evaluates Evaluates Evaluates Evaluates Evaluates Evaluates Evaluates Evaluates Evaluates → Evaluates
 expression_step (Expression-F.OneConjunction at conjunction) = conjunction
-expression_step (Expression-F.Or at line left right) = λ context. left context >>= (λ a. if is_true a then pure (bool_value true) else (right context >>= (λ b. pure (bool_value (is_true b)))))
+expression_step (Expression-F.Or at line left right) = λ context. left context >>= (λ a. if is_true a then pure (bool_value true) else right context)
 
 abbrev pub conjunction_step : Conjunction-F Evaluates Evaluates Evaluates Evaluates Evaluates Evaluates Evaluates Evaluates Evaluates → Evaluates
 conjunction_step (Conjunction-F.OneEquality at equality) = equality
-conjunction_step (Conjunction-F.And at line left right) = λ context. left context >>= (λ a. if is_true a then (right context >>= (λ b. pure (bool_value (is_true b)))) else pure (bool_value false))
+conjunction_step (Conjunction-F.And at line left right) = λ context. left context >>= (λ a. if is_true a then right context else pure (bool_value false))
 
 abbrev pub equality_step : Equality-F Evaluates Evaluates Evaluates Evaluates Evaluates Evaluates Evaluates Evaluates Evaluates → Evaluates
 equality_step (Equality-F.OneRelation at relation) = relation

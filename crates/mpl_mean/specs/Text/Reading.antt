@@ -1,5 +1,5 @@
 -- A tree reads its tokens from the front of a list of tokens: the steps that every rule of the grammar is made of.
-use Rattle.std.specs.Prelude.{ℕ, ◌+◌, Bool, false, ◌&&◌, ◌==◌, List, [], ◌∷◌, Option, Some, None, if◌then◌else◌, ℤ}
+use Rattle.std.specs.Prelude.{ℕ, ◌+◌, Bool, false, ◌&&◌, ◌==◌, List, [], ◌∷◌, Option, Some, None, if◌then◌else◌, ℤ, int_le, pos}
 use Rattle.std.specs.Option.{option_and_then}
 use Rattle.std.specs.Ordering.{int_eq}
 use Rattle.std.specs.Str.{bytes_eq}
@@ -42,9 +42,10 @@ is_name text (kind.Number value) = false
 is_name text (kind.Keyword k) = false
 is_name text (kind.Mark m) = false
 
+-- a number is written without a sign
 abbrev pub is_number : ℤ → TokenKind → Bool
 is_number value (kind.Name text) = false
-is_number value (kind.Number other) = int_eq other value
+is_number value (kind.Number other) = int_le (pos 0) other && int_eq other value
 is_number value (kind.Keyword k) = false
 is_number value (kind.Mark m) = false
 

@@ -34,6 +34,7 @@ use Rattle.mpl_ast.specs.declared.statement.ForStart.TheVariants.{Declare, Assig
 use Rattle.mpl_ast.specs.declared.statement.Local.{Local}
 use Rattle.mpl_ast.specs.declared.statement.Statement.{Statement, fold-Statement}
 use Rattle.mpl_ast.specs.declared.statement.Statement.TheOpen.{Statement-F}
+use Rattle.mpl_mean.specs.Limits.{most_weight}
 
 -- the weights of some tokens in their order, and what still counts behind them, from what counts before them
 pub record Weighed : Type 0 where
@@ -259,6 +260,6 @@ declaration_weighs (declaration.Function at result function formals body) = func
 abbrev pub weights : Program → List ℕ
 weights p = (in_order (map declaration_weighs p.declarations) 0).weights
 
--- no token has a weight above 64
+-- no token has a weight above the most
 abbrev pub is_light : Program → Bool
-is_light p = list_all (λ w. nat_le w 64) (weights p)
+is_light p = list_all (λ w. nat_le w most_weight) (weights p)

@@ -10,6 +10,7 @@ use Rattle.mpl_mean.specs.TypeRules.Expr.{Expr}
 use Rattle.mpl_mean.specs.TypeRules.Scopes.{Environment, is_persistent}
 use Rattle.mpl_mean.specs.TypeRules.Types.{OfBool, agree}
 use Rattle.mpl_mean.specs.TypeRules.Typing.{type_of}
+use Rattle.mpl_mean.specs.Limits.{greatest_priority}
 
 -- ---- rule 9
 
@@ -19,9 +20,6 @@ state_is_persistent environment node.AState = is_persistent environment.class
 state_is_persistent environment other = true
 
 -- ---- rule 10
-
-abbrev pub greatest_priority : ℕ
-greatest_priority = 255
 
 -- A class has at most one `select`; a priority is at most 255.
 abbrev pub select_is_allowed : Environment → Node → Bool

@@ -10,6 +10,7 @@ use Rattle.mpl_mean.specs.TypeRules.Nodes.{Node}
 use Rattle.mpl_mean.specs.TypeRules.Nodes as node
 use Rattle.mpl_mean.specs.TypeRules.Scopes.{Environment}
 use Rattle.mpl_mean.specs.TypeRules.Types.{Meant, AnInt, ABool, AStruct, AClass, Nothing, meant, Role, is_field, is_local, words_of_variables, words_of_state}
+use Rattle.mpl_mean.specs.Limits.{most_words, most_words_of_variables, most_declarations, most_members, most_formals, most_entries}
 
 -- ---- rule 4
 
@@ -29,10 +30,6 @@ type_may_stand environment (node.UsedType role bare type) = meant_may_stand role
 type_may_stand environment other = true
 
 -- ---- rule 5
-
--- the words of a struct, of an array and of a state
-abbrev pub most_words : ℕ
-most_words = 256
 
 abbrev pub is_element : TypeName → Bool
 is_element (type.Int at) = true
@@ -66,9 +63,6 @@ size_fits environment other = true
 
 -- ---- rule 7
 
-abbrev pub most_words_of_variables : ℕ
-most_words_of_variables = 1024
-
 -- Formals and all locals of one function or member have at most 1,024 words together. One whose type name stands for
 -- nothing counts one word for each element.
 abbrev pub variables_fit : Environment → Node → Bool
@@ -76,18 +70,6 @@ variables_fit environment (node.Routine variables) = nat_le (words_of_variables 
 variables_fit environment other = true
 
 -- ---- rule 8
-
-abbrev pub most_declarations : ℕ
-most_declarations = 4096
-
-abbrev pub most_members : ℕ
-most_members = 64
-
-abbrev pub most_formals : ℕ
-most_formals = 16
-
-abbrev pub most_entries : ℕ
-most_entries = 256
 
 -- the first too many has the most before it
 abbrev pub is_not_first_too_many : ℕ → ℕ → Bool
