@@ -12,7 +12,8 @@ pub answers : (source : List ℕ) (y : Yield) (whole front : List ℕ → Type 0
 answers source y whole front fault status.Done turns runs ends takes = record { done = y; runs = runs; takes = takes; ends = ends.0; written = ends.1 }
 answers source y whole front fault (status.Trap trap) turns runs ends takes = record { done = y; runs = runs; takes = takes; ends = ends.0; written = ends.1 }
 answers source y whole front fault status.Stuck turns runs ends takes = record { done = y; runs = runs; takes = takes; ends = ends.0; written = ends.1 }
-answers source y whole front fault status.Spent turns runs ends takes = record { done = y; runs = runs; takes = takes; ends = ends; written = tt }
+answers source y whole front fault status.Spent turns runs ends takes =
+    (record { done = y; runs = runs; takes = takes; ends = ends.0; written = tt }, takes ∙ ends.1)
 answers source y whole front fault status.WriteFault turns runs ends takes =
     (record { done = y; runs = runs; takes = takes; ends = ends.0; written = ends.1 }, ends.2)
 answers source y whole front fault status.Usage turns runs ends takes = absurd ends

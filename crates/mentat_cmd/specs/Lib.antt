@@ -1,14 +1,5 @@
-pub mod Ahead
 pub mod Answer
-pub mod Bodies
-pub mod Outline
 pub mod Output
-pub mod Parts
 pub mod Program
-pub mod Reader
-pub mod Scope
-pub mod Stages
 pub mod StatusNumber
-pub mod Typed
-pub mod Variables
 pub mod Words

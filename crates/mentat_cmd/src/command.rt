@@ -1,8 +1,10 @@
-ghost use Rattle.std.specs.Prelude.{◌≡◌, ◌↔◌, ◌≢◌, ℕ, List, None, IfSome, IsTrue, IsSome};
+ghost use Rattle.std.specs.Prelude.{◌≡◌, ◌↔◌, ◌≢◌, ◌+◌, ℕ, List, None, IfSome, IsTrue, IsSome};
 ghost use Rattle.mentat_io.specs.Causes.{Rose};
 ghost use Rattle.mentat_cmd.specs.Answer.{Answered, Answers, Ends, IsStatusOf, IsThere, IsWritten, LeavesOutput};
 ghost use Rattle.mentat_cmd.specs.Output.{Appends, AppendsFront};
 ghost use Rattle.mentat_cmd.specs.Words.{file_of};
+ghost use Rattle.mpl_mean.specs.Limits.{usual_budget};
+ghost use Rattle.mpl_value.specs.declared.body.BodyEnd.TheVariants.{Spent};
 ghost use Rattle.mpl_value.specs.declared.body.Yield.{Yield};
 
 use crate::output::write_all;
@@ -79,6 +81,7 @@ fn answer<K: Sink>(alloc: Global, source: &[u8], out: &mut K) -> Ending
 
 // Writes what a run printed, if its turns didn't run out.
 fn finish<K: Sink>(done: &Yield, out: &mut K) -> Ending
+    requires spent { done.now.end ≡ Spent → done.now.turns ≡ usual_budget + 1 }
     ensures ends { Ends done.now (Appends (K.written out.old) (K.written out.new)) (AppendsFront (K.written out.old) (K.written out.new))
         (Rose (K.faults out.old) (K.faults out.new)) result.status }
     ensures turns { result.turns ≡ done.now.turns }

@@ -1,11 +1,13 @@
-ghost use Rattle.std.specs.Prelude.{◌≡◌, ◌≤◌, [], length};
+ghost use Rattle.std.specs.Prelude.{◌≡◌, ◌+◌, ◌≤◌, [], length, IfOk};
+ghost use Rattle.mpl_mean.specs.Limits.{most_source_bytes, usual_budget};
+ghost use Rattle.mpl_value.specs.declared.body.BodyEnd.TheVariants.{Spent};
 ghost use Rattle.mentat_cmd.specs.Program.{Ran};
 ghost use Rattle.mpl_mean.specs.Meaning.DirectRun.{main_start};
 
-use crate::check::is_typed;
-use crate::parser::{ParseFault, parse};
 use mpl_lexer::{LexFault, lex};
 use mpl_mean::{Typed, tokens_are_few, tokens_have_one_tree};
+use mpl_parse::{ParseFault, parse};
+use mpl_types::is_typed;
 use mpl_value::{BodyStart, NoMemory, Replies, Words, Yield};
 use mpl_walk::walk;
 use std::alloc::Global;
@@ -33,8 +35,9 @@ impl From<NoMemory> for Refusal {
 
 /// What the program of a source does.
 pub fn run(alloc: Global, source: &[u8]) -> Result<Yield, Refusal>
-    requires { length source.now ≤ 1048576 }
-    ensures { Ran source.now result }
+    requires { length source.now ≤ most_source_bytes }
+    ensures ran { Ran source.now result }
+    ensures spent { IfOk result (λ y. y.end ≡ Spent → y.turns ≡ usual_budget + 1) }
 {
     let tokens = match lex(alloc, source) {
         Ok(tokens) => tokens,
@@ -54,7 +57,7 @@ pub fn run(alloc: Global, source: &[u8]) -> Result<Yield, Refusal>
     let typed = Typed::of(program);
     let start = start_of_main(alloc);
     let replies = Replies::new(alloc);
-    match walk(alloc, typed.program(), &start, &replies, BUDGET) {
+    match walk(alloc, &typed, &start, &replies, BUDGET) {
         Ok(done) => Ok(done),
         Err(NoMemory) => Err(Refusal::NoMemory),
     }

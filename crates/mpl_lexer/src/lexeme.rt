@@ -3,6 +3,7 @@ ghost use Rattle.std.specs.List.{starts_with};
 ghost use Rattle.mpl_mean.specs.Text.TokenTable.{marks, mark_spelling};
 ghost use Rattle.mpl_mean.specs.Text.Lexemes.{Word, comment_lexeme, comment_rest, number_lexeme, mark_lexeme, word_kind, is_digit, continues_name};
 ghost use Rattle.mpl_lexer.specs.Lexing.{IsFound, lexeme_of};
+ghost use Rattle.mpl_mean.specs.Limits.{most_source_bytes};
 
 use crate::lexer::LexFault;
 use crate::{classes, scan, spelling};
@@ -38,7 +39,7 @@ impl Lexeme {
 /// What stands at a place of a source.
 pub(crate) fn lexeme_at(alloc: Global, source: &[u8], at: usize) -> Result<Lexeme, LexFault>
     requires inside { at < length source.now }
-    requires short { length source.now ≤ 1048576 }
+    requires short { length source.now ≤ most_source_bytes }
     ensures exact { IsFound at result (lexeme_of (drop at source.now)) }
     ensures within { IfOk result (λ l. (0 < l.length) × (at + l.length ≤ length source.now)) }
 {

@@ -1,6 +1,7 @@
 ghost use Rattle.std.specs.Prelude.{◌≡◌, ◌≤◌, length, IfOk, IfErr, Ok};
 ghost use Rattle.mpl_mean.specs.Text.Lexemes.{tokens_of};
 ghost use Rattle.mpl_lexer.specs.Lexing.{IsFault};
+ghost use Rattle.mpl_mean.specs.Limits.{most_source_bytes};
 
 use crate::lexeme::{Lexeme, lexeme_at};
 use crate::scan;
@@ -33,7 +34,7 @@ impl From<NoMemory> for LexFault {
 
 /// The tokens of a source.
 pub fn lex(alloc: Global, source: &[u8]) -> Result<Tokens, LexFault>
-    requires { length source.now ≤ 1048576 }
+    requires { length source.now ≤ most_source_bytes }
     // Ok exactly where the source has tokens, and then those, with the source's length as the end.
     ensures tokens { IfOk result (λ t. (tokens_of source.now ≡ Ok t.list) × (t.end ≡ length source.now)) }
     // Each fault exactly where it is the source's first, at its place.

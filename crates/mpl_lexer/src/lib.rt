@@ -7,8 +7,6 @@ mod lexeme;
 mod lexer;
 mod scan;
 mod spelling;
-#[cfg(test)]
-mod tests;
 
 pub use laws::tokens_stand_in_their_source;
 pub use lexer::{LexFault, lex};

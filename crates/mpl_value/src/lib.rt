@@ -8,8 +8,6 @@ mod listed;
 mod memory;
 mod numbers;
 mod replies;
-#[cfg(test)]
-mod tests;
 
 pub use arithmetic::{add, div, mul, neg, rem, sub};
 pub use body::{Arg, Args, BodyEnd, BodyResult, BodyStart, CallMade, Calls, MemberId, Yield};

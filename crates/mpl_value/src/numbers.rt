@@ -87,9 +87,10 @@ impl<T: Copy> Numbers<T> {
         self.items.as_slice()
     }
 
-    pub fn copy(&self, alloc: Global) -> Result<Numbers<T>, NoMemory>
+    /// A list of its own with the same numbers.
+    pub fn copy(&self) -> Result<Numbers<T>, NoMemory>
         ensures { IfOk result (λ n. n ≡ self.now) }
     {
-        Numbers::from_slice(alloc, self.as_slice())
+        Numbers::from_slice(*self.items.allocator(), self.as_slice())
     }
 }

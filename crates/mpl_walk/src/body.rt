@@ -67,7 +67,7 @@ pub fn walk(
         calls: Calls::new(alloc),
         creations: Words::new(alloc),
         result: BodyResult::Open,
-        state: start.state.copy(alloc)?,
+        state: start.state.copy()?,
         turns,
         end,
     })

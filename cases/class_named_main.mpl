@@ -1,0 +1,1 @@
+regular mentat class main { }; int main() { }

@@ -1,0 +1,1 @@
+regular mentat class mainly { }; int main() { }

@@ -1,0 +1,1 @@
+regular mentat class c { }; int main() { c w; }

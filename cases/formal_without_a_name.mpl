@@ -1,0 +1,1 @@
+regular mentat class c { int f(int) { rtf(1); } }; int main() { }

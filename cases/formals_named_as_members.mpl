@@ -1,0 +1,1 @@
+regular mentat class c { int f(int f, int c) { rtf(f + c); } }; int main() { c w; int a = w.f(2, 3); print(a); }

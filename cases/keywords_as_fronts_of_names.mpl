@@ -1,0 +1,1 @@
+regular mentat class classy { int rtf_() { rtf(1); } }; int main() { classy ifs; int int1 = ifs.rtf_(); print(int1); }

@@ -1,0 +1,1 @@
+printf 'int main() { }'; head -c 1048562 /dev/zero | tr '\0' ' '

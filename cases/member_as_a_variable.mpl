@@ -1,0 +1,1 @@
+regular mentat class c { int f(int x) { rtf(f); } }; int main() { }

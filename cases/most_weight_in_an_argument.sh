@@ -1,0 +1,1 @@
+awk 'BEGIN { printf "%s", "regular mentat class c { int f(int x) { rtf(x); } }; int main() { c w; int a = w.f(1"; for (i = 0; i < 62; i++) { s = " * 1"; gsub(/#/, "n" i, s); printf "%s", s } printf "%s", "); }" }'

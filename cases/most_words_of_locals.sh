@@ -1,0 +1,1 @@
+awk 'BEGIN { printf "%s", "regular mentat class c { int f() { rtf(1); } }; int main() { c w;"; for (i = 0; i < 1024; i++) { s = "int # = w.f();"; gsub(/#/, "n" i, s); printf "%s", s } printf "%s", "}" }'

@@ -1,0 +1,2 @@
+regular mentat class c { int f(int x) { rtf(x); } int g() { rtf(1); } };
+int main() { c w; print(1 + w); }

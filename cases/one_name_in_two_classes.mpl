@@ -1,0 +1,1 @@
+regular mentat class c { int f() { rtf(1); } }; regular mentat class d { int f() { rtf(2); } }; int main() { c a; d b; int x = a.f(); int y = b.f(); print(x, y); }

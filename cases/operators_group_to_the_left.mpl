@@ -1,0 +1,1 @@
+int main() { print(10 - 2 - 3); print(2 * 3 * 4); }

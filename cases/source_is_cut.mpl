@@ -1,0 +1,1 @@
+regular mentat cl

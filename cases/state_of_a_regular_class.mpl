@@ -1,0 +1,1 @@
+regular mentat class c { int x; }; int main() { }

@@ -1,0 +1,1 @@
+regular mentat class c { int f() { rtf(1); } int f() { rtf(2); } }; int main() { }

@@ -1,0 +1,1 @@
+regular mentat class c { void f() { rtf(1); } }; int main() { }

@@ -1,0 +1,7 @@
+//! Tests of the language's crates and of the top call, together in one crate above them.
+#![tactic(auto)]
+
+#[cfg(test)]
+mod faults;
+#[cfg(test)]
+mod replies;

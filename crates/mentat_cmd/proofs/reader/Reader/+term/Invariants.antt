@@ -1,4 +1,0 @@
-use Rattle.mentat_cmd.proofs.reader.Reader.+term.Given as goal
-
-abbrev pub decreases-term : goal.decreases-term
-decreases-term l = l.operators

@@ -1,9 +1,0 @@
-use Rattle.mentat_cmd.specs.declared.scope.Variables.{Variables}
-use Rattle.mentat_cmd.proofs.ScopeLemmas.{declared, seen_with}
-use Rattle.mentat_cmd.proofs.scope.Variables.declare.Goals as goal
-
-pub returns : goal.returns
-returns c =
-    let new : Variables = record { table = c.insert.new.self } in
-    declared c.args.self.now new c.args.name.now c.args.variable c.in_ok-old.old c.is_none.result c.in_ok-old.ensures.old c.is_none.ensures
-    (seen_with c.args.self.now new c.args.name.now c.args.variable c.in_ok-old.ensures.updates)

@@ -1,0 +1,14 @@
+ghost use Rattle.std.specs.Prelude.{◌≡◌, ℕ, List};
+ghost use Rattle.mentat_io.specs.Shelf.{Files};
+ghost use Rattle.mentat_cmd.specs.Answer.{IsCause, IsExact};
+ghost use Rattle.mentat_cmd.specs.declared.status.Status.{Status};
+
+use mpl_mean::tokens_have_one_tree;
+
+/// Of the answers that come exactly where their cause holds, no two have a cause in one file.
+pub fn causes_exclude_one_another()
+    ensures { (files : Files) (name : List ℕ) (s t : Status) (m n : ℕ) →
+        IsExact s → IsExact t → IsCause files name s m → IsCause files name t n → (s ≡ t) × (m ≡ n) }
+{
+    tokens_have_one_tree();
+}

@@ -1,0 +1,15 @@
+mod Chains
+mod EndedCounts
+mod ExpressionTexts
+mod Forms
+mod Layers
+mod Leading
+mod Lookahead
+mod Operands
+mod Parsed
+mod StageSteps
+mod Steps
+mod Turns
+mod Weights
+mod Whole
+mod WholeClasses

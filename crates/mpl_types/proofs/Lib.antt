@@ -1,0 +1,12 @@
+mod BodyLemmas
+mod Lists
+mod NameLemmas
+mod ScopeLemmas
+mod TypedBodies
+mod TypedCalls
+mod TypedMembers
+mod TypedNodes
+mod TypedOutline
+mod TypedPrograms
+mod TypedScopes
+mod TypedStatements
