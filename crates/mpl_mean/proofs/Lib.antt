@@ -7,4 +7,7 @@ pub mod MoreTurns
 pub mod MoreReplies
 pub mod Sizes
 pub mod SmallPrograms
+mod Allowance
+mod InPlace
 pub mod Truth
+mod NeverWaits

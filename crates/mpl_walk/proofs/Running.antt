@@ -1,6 +1,6 @@
 -- Statements, one after another, and the yield.
 use Rattle.std.proofs.Common.{◌≡◌, ℕ, zero, suc, ◌+◌, List, [], ◌∷◌, ◌++◌, map, drop, Option, None, Result, Ok, Err, refl, rules, arith, ap, sym, subst, ◌∙◌}
-use Rattle.std.specs.FinMap.{FinMap}
+use Rattle.std.specs.FinMap.{FinMap, empty}
 use Rattle.std.specs.Ordering.{nat_cmp}
 use Rattle.mpl_ast.specs.declared.expression.Expression.{Expression}
 use Rattle.mpl_ast.specs.declared.place.At.{At}
@@ -34,7 +34,7 @@ main_fits ds zero replies number = record {
   declarations = refl;
   turns = refl;
   stateless = refl;
-  inner = context_with ds zero replies (callees_at zero ds zero replies);
+  inner = context_with ds zero empty (callees_at zero ds zero empty);
   inner_turns = refl;
   inner_stateless = refl;
   regular = λ started m words. absurd (omega (arith, started));
@@ -43,7 +43,7 @@ main_fits ds (suc level) replies number = record {
   declarations = refl;
   turns = refl;
   stateless = refl;
-  inner = context_with ds (suc level) replies (callees_at level ds (suc level) replies);
+  inner = context_with ds (suc level) empty (callees_at level ds (suc level) empty);
   inner_turns = refl;
   inner_stateless = refl;
   regular = λ started m words. refl;

@@ -1,9 +1,8 @@
 -- What calls answer in a run with more replies follows what they answer in one with fewer; and loops.
-use Rattle.std.proofs.Common.{◌≡◌, ℕ, zero, suc, Bool, true, false, List, [], ◌∷◌, Option, Some, None, if◌then◌else◌, ℤ, refl, sym, ap, ap₂, subst}
+use Rattle.std.proofs.Common.{◌≡◌, ℕ, zero, suc, ◌≤◌, Bool, true, false, List, [], ◌∷◌, Option, Some, None, if◌then◌else◌, ℤ, refl, sym, ap, ap₂, subst, arith}
 use Rattle.std.specs.List.{AllZip}
 use Rattle.mpl_value.specs.declared.body.Arg.{Arg}
 use Rattle.mpl_value.specs.declared.body.Arg.TheVariants.{Know, Trapped, Unknown}
-use Rattle.mpl_value.specs.declared.body.BodyEnd.TheVariants as end
 use Rattle.mpl_value.specs.declared.known.Known.{Known}
 use Rattle.mpl_value.specs.declared.known.Known.TheVariants as known
 use Rattle.mpl_value.specs.declared.known.Trap.{Trap}
@@ -14,7 +13,8 @@ use Rattle.mpl_mean.specs.Meaning.StatementMeaning.{Effect, nothing, while_loop}
 use Rattle.mpl_mean.specs.Meaning.Store.{Step, ◌>>◌, pure, spend}
 use Rattle.mpl_mean.specs.Meaning.Values.{Value, is_true}
 use Rattle.mpl_mean.proofs.Simulations.Simulation.{Same}
-use Rattle.mpl_mean.proofs.MoreReplies.Follows.{StepFollows, then_step, gives_step, stops_step, spend_step}
+use Rattle.mpl_mean.proofs.MoreReplies.Follows.{Growing, StepFollows, then_grows, then_step, gives_step, spent_step, spend_step}
+use Rattle.mpl_mean.proofs.MoreReplies.Later.{Later-itself}
 
 abbrev pub ArgStep : Step Arg → Step Arg → Type 0
 ArgStep = StepFollows Arg Stays
@@ -77,11 +77,23 @@ if_step : (test : Bool) (h k : Effect) → StepFollows (Unit {0}) Same h k → S
 if_step true h k r = r
 if_step false h k r = gives_step _ _ tt tt refl
 
-pub loop_step : (fuel n : ℕ) (f g : Step Value) (h k : Effect) → StepFollows Value Same f g → StepFollows (Unit {0}) Same h k → StepFollows (Unit {0}) Same (while_loop fuel n f h) (while_loop fuel n g k)
-loop_step zero n f g h k r q = stops_step _ _ end.Spent
-loop_step (suc fuel) n f g h k r q =
-    let others = loop_step fuel n f g h k r q in
-    then_step _ _ Same Same (spend n) (spend n) _ _ (λ a. refl) (spend_step n) (λ _ _ _.
+if_grows : (test : Bool) (h : Effect) → Growing h → Growing (if test then h else nothing)
+if_grows true h r = r
+if_grows false h r = Later-itself
+
+loop_grows : (fuel n : ℕ) (f : Step Value) (h : Effect) → Growing f → Growing h → Growing (while_loop fuel n f h)
+loop_grows zero n f h r q = Later-itself
+loop_grows (suc fuel) n f h r q =
+    then_grows (spend n) _ (spend_step n n).grows (λ _.
+    then_grows f _ r (λ v. if_grows (is_true v) (h >> while_loop fuel n f h) (then_grows h (λ _. while_loop fuel n f h) q (λ _. loop_grows fuel n f h r q))))
+
+pub loop_step : (fuel more n m : ℕ) (f g : Step Value) (h k : Effect) → fuel ≤ more → StepFollows Value Same f g → StepFollows (Unit {0}) Same h k
+    → StepFollows (Unit {0}) Same (while_loop fuel n f h) (while_loop more m g k)
+loop_step zero more n m f g h k le r q = spent_step _ _ (while_loop more m g k) (loop_grows more m g k r.grows q.grows)
+loop_step (suc fuel) zero n m f g h k le r q = absurd (omega arith)
+loop_step (suc fuel) (suc more) n m f g h k le r q =
+    let others = loop_step fuel more n m f g h k (omega arith) r q in
+    then_step _ _ Same Same (spend n) (spend m) _ _ (λ a. refl) (spend_step n m) (λ _ _ _.
     then_step _ _ Same Same f g _ _ (λ a. refl) r (λ v w e.
-    subst (λ w. StepFollows (Unit {0}) Same (if is_true v then (h >> while_loop fuel n f h) else nothing) (if is_true w then (k >> while_loop fuel n g k) else nothing)) e
-    (if_step (is_true v) _ _ (then_step _ _ Same Same h k (λ _. while_loop fuel n f h) (λ _. while_loop fuel n g k) (λ a. refl) q (λ _ _ _. others)))))
+    subst (λ w. StepFollows (Unit {0}) Same (if is_true v then (h >> while_loop fuel n f h) else nothing) (if is_true w then (k >> while_loop more m g k) else nothing)) e
+    (if_step (is_true v) _ _ (then_step _ _ Same Same h k (λ _. while_loop fuel n f h) (λ _. while_loop more m g k) (λ a. refl) q (λ _ _ _. others)))))

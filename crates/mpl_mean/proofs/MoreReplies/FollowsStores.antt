@@ -20,7 +20,7 @@ use Rattle.mpl_mean.specs.Meaning.Store.{Store, Goes, Step, Variable, hold, hold
 use Rattle.mpl_value.specs.Words.{with_words}
 use Rattle.mpl_mean.specs.Meaning.Values.{Value}
 use Rattle.mpl_mean.proofs.Simulations.Simulation.{Same, VariableBeside, MaybeBeside, at_variable, maybe_itself, variable_itself}
-use Rattle.mpl_mean.proofs.MoreReplies.Later.{Later, Later-itself, Beside, Begins-append, ResultBeside, CallStays-itself, Stays-itself}
+use Rattle.mpl_mean.proofs.MoreReplies.Later.{Later, Later-itself, Adds, Adds-itself, Beside, Begins-append, ResultBeside, CallStays-itself, Stays-itself}
 use Rattle.mpl_mean.proofs.MoreReplies.Follows.{Follows, goes, ends, StepFollows, store_after, named_beside}
 
 -- ---- variables and the state
@@ -30,10 +30,11 @@ pub looks_step : (A : Type 0) (V : A → A → Type 0) (name : List ℕ) (h k : 
 looks_step A V name h k r = record {
   follows = λ s t e. (r (variable_named name s.variables) (variable_named name t.variables) (named_beside name s.variables t.variables e.variables)).follows s t e;
   grows = λ t. let v = variable_named name t.variables in (r v v (maybe_itself (VariableBeside Stays) (variable_itself Stays Stays-itself) v)).grows t;
+  adds = λ s. let v = variable_named name s.variables in (r v v (maybe_itself (VariableBeside Stays) (variable_itself Stays Stays-itself) v)).adds s;
 }
 
 pub state_step : StepFollows (List ℤ) Same (λ s. Goes s.state s) (λ s. Goes s.state s)
-state_step = record { follows = λ s t e. goes (ap (λ (u : Store). u.state) e.same) e; grows = Later-itself }
+state_step = record { follows = λ s t e. goes (ap (λ (u : Store). u.state) e.same) e; grows = Later-itself; adds = Adds-itself }
 
 pub restates_step : (offset : ℕ) (words : List ℤ) → let step : Effect = λ s. Goes tt (record s { state = with_words offset words s.state }) in StepFollows (Unit {0}) Same step step
 restates_step offset words = record {
@@ -45,6 +46,7 @@ restates_step offset words = record {
     turns = e.turns;
   });
   grows = λ t. let l = Later-itself t in record { result = l.result; lines = l.lines; creations = l.creations; calls = l.calls; turns = l.turns };
+  adds = Adds-itself;
 }
 
 held_beside : (b : Bool) (v w : Variable) (vs ws us us' : List Variable) → VariableBeside Stays v w → AllZip (VariableBeside Stays) vs ws → (x y : Variable) → VariableBeside Stays x y → AllZip (VariableBeside Stays) us us'
@@ -74,12 +76,14 @@ pub holds_step : (name : List ℕ) (a b : Arg) → Stays a b → StepFollows (Un
 holds_step name a b h = record {
   follows = λ s t e. goes refl (varied s t _ _ e (holding_beside name a b h s.variables t.variables e.variables));
   grows = λ t. later_variables t (holding name b t.variables);
+  adds = Adds-itself;
 }
 
 pub declares_step : (v w : Variable) → VariableBeside Stays v w → StepFollows (Unit {0}) Same (declare v) (declare w)
 declares_step v w h = record {
   follows = λ s t e. goes refl (varied s t (v ∷ s.variables) (w ∷ t.variables) e (h, e.variables));
   grows = λ t. later_variables t (w ∷ t.variables);
+  adds = Adds-itself;
 }
 
 -- ---- lines and input
@@ -96,6 +100,7 @@ prints_step text = record {
   grows = λ t.
       let l = Later-itself t in
       record { result = l.result; lines = Begins-append _ (λ x. refl) t.lines text; creations = l.creations; calls = l.calls; turns = l.turns };
+  adds = Adds-itself;
 }
 
 next_follows : (line : ℕ) (input : List ℤ) (s t : Store) → Beside s t → Follows {A = Value} Same (next_of line input s) (next_of line input t)
@@ -112,11 +117,16 @@ next_grows : (line : ℕ) (input : List ℤ) (t : Store) → Later t (store_afte
 next_grows line [] t = Later-itself t
 next_grows line (z ∷ input) t = let l = Later-itself t in record { result = l.result; lines = l.lines; creations = l.creations; calls = l.calls; turns = l.turns }
 
+next_adds : (line : ℕ) (input : List ℤ) (s : Store) → Adds s (store_after (next_of line input s))
+next_adds line [] s = Adds-itself s
+next_adds line (z ∷ input) s = Adds-itself s
+
 pub inputs_step : (line : ℕ) → StepFollows Value Same (next_number line) (next_number line)
 inputs_step line = record {
   follows = λ s t e.
       subst (λ input. Follows {A = Value} Same (next_of line s.input s) (next_of line input t)) (ap (λ (u : Store). u.input) e.same) (next_follows line s.input s t e);
   grows = λ t. next_grows line t.input t;
+  adds = λ s. next_adds line s.input s;
 }
 
 -- ---- calls and objects
@@ -135,6 +145,7 @@ makes_step object member args others h = record {
   grows = λ t.
       let l = Later-itself t in
       record { result = l.result; lines = l.lines; creations = l.creations; calls = Begins-append CallStays CallStays-itself t.calls _; turns = l.turns };
+  adds = λ s. Begins-append _ (λ x. refl) s.calls _;
 }
 
 pub creates_step : (x : Context) (class : Class) → StepFollows ℤ Same (created x class) (created x class)
@@ -149,6 +160,7 @@ creates_step x class = record {
   grows = λ t.
       let l = Later-itself t in
       record { result = l.result; lines = l.lines; creations = Begins-append _ (λ x. refl) t.creations _; calls = l.calls; turns = l.turns };
+  adds = Adds-itself;
 }
 
 -- ---- results
@@ -183,8 +195,14 @@ given_grows line b result.Open t i =
 given_grows line b (result.Known known) t i = Later-itself t
 given_grows line b result.Unknown t i = Later-itself t
 
+given_adds : (line : ℕ) (a : Arg) (r : BodyResult) (s : Store) → Adds s (store_after (give_result line a r s))
+given_adds line a result.Open s = Adds-itself s
+given_adds line a (result.Known known) s = Adds-itself s
+given_adds line a result.Unknown s = Adds-itself s
+
 pub results_step : (line : ℕ) (a b : Arg) → Stays a b → StepFollows (Unit {0}) Same (gives_result line a) (gives_result line b)
 results_step line a b h = record {
   follows = λ s t e. given_follows line a b h s.result t.result e.result s t e;
   grows = λ t. given_grows line b t.result t refl;
+  adds = λ s. given_adds line a s.result s;
 }

@@ -33,6 +33,19 @@ Begins-trans R r (x ∷ xs) [] zs h k = absurd h
 Begins-trans R r (x ∷ xs) (y ∷ ys) [] h k = absurd k
 Begins-trans R r (x ∷ xs) (y ∷ ys) (z ∷ zs) h k = (r x y z h.0 k.0, Begins-trans R r xs ys zs h.1 k.1)
 
+-- what is added behind the second list changes nothing
+Begins-front : {A : Type 0} (R : A → A → Type 0) (xs ys zs : List A) → Begins R xs ys → IsFront ys zs → Begins R xs zs
+Begins-front R [] ys zs h k = tt
+Begins-front R (x ∷ xs) [] zs h k = absurd h
+Begins-front R (x ∷ xs) (y ∷ ys) [] h k = absurd k
+Begins-front R (x ∷ xs) (y ∷ ys) (z ∷ zs) h k = (subst (λ w. R x w) k.0 h.0, Begins-front R xs ys zs h.1 k.1)
+
+zip_back : {A : Type 0} (R : A → A → Type 0) (xs ys : List A) → AllZip R xs ys → Begins (λ y x. R x y) ys xs
+zip_back R [] [] h = tt
+zip_back R [] (y ∷ ys) h = absurd h
+zip_back R (x ∷ xs) [] h = absurd h
+zip_back R (x ∷ xs) (y ∷ ys) h = (h.0, zip_back R xs ys h.1)
+
 pub Begins-from_zip : {A : Type 0} (R : A → A → Type 0) (xs ys : List A) → AllZip R xs ys → Begins R xs ys
 Begins-from_zip R [] ys h = tt
 Begins-from_zip R (x ∷ xs) [] h = absurd h
@@ -101,6 +114,25 @@ Later-trans s t u h k = record {
   turns = le_trans h.turns k.turns;
 }
 
+-- ---- calls of one run
+
+-- a run goes on from the first store to the second: it only adds calls
+abbrev pub Adds : Store → Store → Type 0
+Adds s t = IsFront s.calls t.calls
+
+pub Adds-itself : (s : Store) → Adds s s
+Adds-itself s = front_of_same s.calls s.calls refl
+
+pub Adds-trans : (s t u : Store) → Adds s t → Adds t u → Adds s u
+Adds-trans s t u = Begins-front (λ x y. x ≡ y) s.calls t.calls u.calls
+
+-- the first run has made the calls of the second, and maybe more
+abbrev pub Ahead : Store → Store → Type 0
+Ahead s t = Begins (λ after before. CallStays before after) t.calls s.calls
+
+pub Ahead-adds : (s u t : Store) → Ahead s t → Adds s u → Ahead u t
+Ahead-adds s u t = Begins-front (λ after before. CallStays before after) t.calls s.calls u.calls
+
 -- ---- one store beside another
 
 -- a result that is there stays there
@@ -149,3 +181,6 @@ Beside-later s t h = record {
   calls = Begins-from_zip CallStays s.calls t.calls h.calls;
   turns = h.turns;
 }
+
+pub Beside-ahead : (s t : Store) → Beside s t → Ahead s t
+Beside-ahead s t h = zip_back CallStays s.calls t.calls h.calls

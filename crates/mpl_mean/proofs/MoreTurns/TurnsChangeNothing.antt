@@ -1,7 +1,7 @@
 -- With more turns a body that isn't spent does the same.
 use Rattle.std.proofs.Common.{◌≡◌, ◌≢◌, ℕ, zero, suc, ◌+◌, ◌≤◌, false, List, [], Option, Some, None, ℤ, refl, sym, ap, subst, ◌∙◌, arith}
 use Rattle.std.proofs.lemmas.List.Elements.{same_from_all_zip}
-use Rattle.std.specs.FinMap.{FinMap}
+use Rattle.std.specs.FinMap.{FinMap, empty}
 use Rattle.std.specs.List.{AllZip}
 use Rattle.std.specs.Ordering.{nat_cmp}
 use Rattle.mpl_ast.specs.declared.program.Declaration.{Declaration}
@@ -83,14 +83,16 @@ callees_beside ds replies n m le zero more few = record { plain = λ f arguments
 callees_beside ds replies n m le (suc level) zero few = absurd (omega arith)
 callees_beside ds replies n m le (suc level) (suc more) few =
     let S = by_turns n m le replies in
-    let b = callees_at level ds n replies in
-    let c = callees_at more ds m replies in
+    let x = context_with ds n replies (callees_at level ds n replies) in
+    let y = context_with ds m replies (callees_at more ds m replies) in
     let d = callees_beside ds replies n m le level more (omega arith) in
-    let x = context_with ds n replies b in
-    let y = context_with ds m replies c in
+    let T = by_turns n m le empty in
+    let x' = context_with ds n empty (callees_at level ds n empty) in
+    let y' = context_with ds m empty (callees_at more ds m empty) in
+    let d' = callees_beside ds empty n m le level more (omega arith) in
     record {
-      plain = λ f arguments. S.in_plain x y f arguments (run_kept S b c d x f.body.statements);
-      regular = λ member arguments. S.in_regular x y member arguments (run_kept S b c d x member.body.statements);
+      plain = λ f arguments. S.in_plain x y f arguments (run_kept S _ _ d x f.body.statements);
+      regular = λ member arguments. S.in_regular x' y' member arguments (run_kept T _ _ d' x' member.body.statements);
     }
 
 -- ---- yields

@@ -116,8 +116,10 @@ module _ (S : Simulation) (b c : Callees) (d : BelowBeside S b c) where
       ind-Statement Keeps-Statement Keeps-Block (λ y z is. subst (λ l. Keeps-Statement (roll-Statement l)) is (statement_layer z))
       (λ y z is. subst (λ l. Keeps-Block (roll-Block l)) is (block_layer z))
 
+  pub body_kept : (x : Context) (ts : List Statement) → SameEffect S (in_turn (map (λ s. does s (first S b x)) ts)) (in_turn (map (λ s. does s (second S c x)) ts))
+  body_kept x ts = runs_in_turn S _ _ (zip_map (SameEffect S) (λ s. does s (first S b x)) (λ s. does s (second S c x)) ts (λ t. (statement_kept t).at x))
+
   -- a turn and the statements of a body
   pub run_kept : (x : Context) (ts : List Statement) → SameEffect S (run (first S b x) ts) (run (second S c x) ts)
   run_kept x ts =
-      goes_on_same S (spend S.n) (spend S.m) (λ _. in_turn (map (λ s. does s (first S b x)) ts)) (λ _. in_turn (map (λ s. does s (second S c x)) ts)) S.spends (λ _.
-      runs_in_turn S _ _ (zip_map (SameEffect S) (λ s. does s (first S b x)) (λ s. does s (second S c x)) ts (λ t. (statement_kept t).at x)))
+      goes_on_same S (spend S.n) (spend S.m) (λ _. in_turn (map (λ s. does s (first S b x)) ts)) (λ _. in_turn (map (λ s. does s (second S c x)) ts)) S.spends (λ _. body_kept x ts)

@@ -8,6 +8,8 @@ use Rattle.mpl_ast.specs.declared.class.Formal.{Formal}
 use Rattle.mpl_ast.specs.declared.program.Declaration.{Declaration}
 use Rattle.mpl_ast.specs.declared.program.Declaration.TheVariants as declaration
 use Rattle.mpl_value.specs.declared.body.Arg.{Arg}
+use Rattle.mpl_value.specs.declared.body.Arg.TheVariants.{Know, Trapped, Unknown}
+use Rattle.mpl_value.specs.CallAnswers.{any_unknown}
 use Rattle.mpl_mean.specs.Meaning.Layout.{Function, formals_of, function_named}
 use Rattle.mpl_mean.specs.TypeRules.ProgramNodes.{function_body}
 use Rattle.mpl_mean.specs.TypeRules.Scopes.{InFunction, InMain, is_main}
@@ -15,6 +17,7 @@ use Rattle.mpl_mean.specs.Laws.Sizes.{ArgFits, ArgumentsFit, Every, words_of_for
 use Rattle.mpl_mean.specs.TypeRules.Types.{AClass, ABool, AnInt, AStruct, AsFormal, Meant, Nothing, ValueType, agree, declared_formals, meant, shape_of_meant, value_type}
 use Rattle.mpl_mean.specs.TypeRules.Typing.{all_agree, arguments_agree, formal_types}
 use Rattle.mpl_mean.specs.Meaning.Values.{Value}
+use Rattle.mpl_mean.proofs.Sizes.SizedSteps.{ArgIn}
 use Rattle.mpl_mean.proofs.Sizes.SizedAnswers.{ListsFit}
 use Rattle.mpl_mean.proofs.Sizes.SizedClasses.{bytes_same}
 use Rattle.mpl_mean.proofs.Sizes.SizedRules.{WellDeclaration, WellDeclared, WellRoutine}
@@ -23,9 +26,9 @@ use Rattle.mpl_mean.proofs.Sizes.SizedTypes.{HasSize, WellProgram, same_size, si
 use Rattle.mpl_mean.proofs.Truth.{both_true, some_is}
 
 -- what is passed on with a type has its words, if it is known
-abbrev pub ArgHas : List Declaration → Option ValueType → Arg → Type 0
-ArgHas ds None a = ⊥
-ArgHas ds (Some t) a = ArgFits (size ds t) a
+abbrev pub ArgHas : Type 0 → List Declaration → Option ValueType → Arg → Type 0
+ArgHas W ds None a = ⊥
+ArgHas W ds (Some t) a = ArgIn W (size ds t) a
 
 abbrev pub ValueHas : List Declaration → Option ValueType → Value → Type 0
 ValueHas ds t v = HasSize ds t (length v.words)
@@ -94,25 +97,39 @@ pub words_fit : (ds : List Declaration) → WellProgram ds → (ts : List (Optio
     → arguments_agree ts (formal_types ds formals) ≡ true → Every (WellDeclared ds) (declared_formals formals) → ListsFit ds formals (map (λ (value : Value). value.words) vs)
 words_fit ds well ts formals vs h e w = values_fit ds ts formals vs (formals_agree ds well ts formals (values_some ds ts vs h) e w) h
 
-args_some : (ds : List Declaration) (ts : List (Option ValueType)) (args : List Arg) → AllZip (ArgHas ds) ts args → list_any is_none ts ≡ false
-args_some ds [] args h = refl
-args_some ds (t ∷ ts) [] h = absurd h
-args_some ds (None ∷ ts) (a ∷ args) h = absurd h.0
-args_some ds (Some t ∷ ts) (a ∷ args) h = args_some ds ts args h.1
+arg_fits : (W : Type 0) (n : ℕ) (a : Arg) → ArgIn W n a → ArgFits n a
+arg_fits W n (Know words) h = h
+arg_fits W n (Trapped t) h = tt
+arg_fits W n Unknown h = tt
 
-zip_args : (ds : List Declaration) (ts : List (Option ValueType)) (formals : List Formal) (args : List Arg) → AllZip (FormalHas ds) ts formals → AllZip (ArgHas ds) ts args → ArgumentsFit ds formals args
-zip_args ds [] [] [] h k = tt
-zip_args ds [] [] (a ∷ args) h k = absurd k
-zip_args ds [] (formal ∷ formals) args h k = absurd h
-zip_args ds (t ∷ ts) [] args h k = absurd h
-zip_args ds (t ∷ ts) (formal ∷ formals) [] h k = absurd k
-zip_args ds (None ∷ ts) (formal ∷ formals) (a ∷ args) h k = absurd h.0
-zip_args ds (Some t ∷ ts) (formal ∷ formals) (a ∷ args) h k = (subst (λ n. ArgFits n a) h.0 k.0, zip_args ds ts formals args h.1 k.1)
+-- where an argument isn't known something may wait
+pub unknown_waits : (W : Type 0) (ds : List Declaration) (ts : List (Option ValueType)) (args : List Arg) → AllZip (ArgHas W ds) ts args → any_unknown args ≡ true → W
+unknown_waits W ds ts [] h e = absurd cc
+unknown_waits W ds [] (a ∷ args) h e = absurd h
+unknown_waits W ds (None ∷ ts) (a ∷ args) h e = absurd h.0
+unknown_waits W ds (Some t ∷ ts) (Know words ∷ args) h e = unknown_waits W ds ts args h.1 e
+unknown_waits W ds (Some t ∷ ts) (Trapped trap ∷ args) h e = unknown_waits W ds ts args h.1 e
+unknown_waits W ds (Some t ∷ ts) (Unknown ∷ args) h e = h.0
+
+args_some : (W : Type 0) (ds : List Declaration) (ts : List (Option ValueType)) (args : List Arg) → AllZip (ArgHas W ds) ts args → list_any is_none ts ≡ false
+args_some W ds [] args h = refl
+args_some W ds (t ∷ ts) [] h = absurd h
+args_some W ds (None ∷ ts) (a ∷ args) h = absurd h.0
+args_some W ds (Some t ∷ ts) (a ∷ args) h = args_some W ds ts args h.1
+
+zip_args : (W : Type 0) (ds : List Declaration) (ts : List (Option ValueType)) (formals : List Formal) (args : List Arg) → AllZip (FormalHas ds) ts formals → AllZip (ArgHas W ds) ts args → ArgumentsFit ds formals args
+zip_args W ds [] [] [] h k = tt
+zip_args W ds [] [] (a ∷ args) h k = absurd k
+zip_args W ds [] (formal ∷ formals) args h k = absurd h
+zip_args W ds (t ∷ ts) [] args h k = absurd h
+zip_args W ds (t ∷ ts) (formal ∷ formals) [] h k = absurd k
+zip_args W ds (None ∷ ts) (formal ∷ formals) (a ∷ args) h k = absurd h.0
+zip_args W ds (Some t ∷ ts) (formal ∷ formals) (a ∷ args) h k = (arg_fits W _ a (subst (λ n. ArgIn W n a) h.0 k.0), zip_args W ds ts formals args h.1 k.1)
 
 -- arguments whose types fit
-pub args_fit : (ds : List Declaration) → WellProgram ds → (ts : List (Option ValueType)) (formals : List Formal) (args : List Arg) → AllZip (ArgHas ds) ts args
+pub args_fit : (W : Type 0) (ds : List Declaration) → WellProgram ds → (ts : List (Option ValueType)) (formals : List Formal) (args : List Arg) → AllZip (ArgHas W ds) ts args
     → arguments_agree ts (formal_types ds formals) ≡ true → Every (WellDeclared ds) (declared_formals formals) → ArgumentsFit ds formals args
-args_fit ds well ts formals args h e w = zip_args ds ts formals args (formals_agree ds well ts formals (args_some ds ts args h) e w) h
+args_fit W ds well ts formals args h e w = zip_args W ds ts formals args (formals_agree ds well ts formals (args_some W ds ts args h) e w) h
 
 -- ---- plain functions
 

@@ -1,5 +1,5 @@
 -- Bodies that are called in place keep the sizes.
-use Rattle.std.proofs.Common.{◌≡◌, ℕ, Bool, true, false, List, [], ◌∷◌, ◌++◌, length, map, Option, Some, None, if◌then◌else◌, ℤ, refl, ap, subst}
+use Rattle.std.proofs.Common.{◌≡◌, ◌≢◌, ℕ, Bool, true, false, List, [], ◌∷◌, ◌++◌, length, map, Option, Some, None, if◌then◌else◌, ℤ, refl, ap, subst}
 use Rattle.std.specs.FinMap.{FinMap}
 use Rattle.std.specs.Ordering.{nat_cmp}
 use Rattle.std.specs.Str.{bytes_eq}
@@ -26,7 +26,7 @@ use Rattle.mpl_mean.specs.Meaning.Context.{Callees, Context}
 use Rattle.mpl_mean.specs.Meaning.Layout.{Function, Part, words_of}
 use Rattle.mpl_value.specs.Growing.{IsFront}
 use Rattle.mpl_mean.specs.TypeRules.Scopes.{Body, InFunction, InMember, NoBody, Surrounding}
-use Rattle.mpl_mean.specs.Laws.Sizes.{ArgFits, Every, ResultFits, words_of_result}
+use Rattle.mpl_mean.specs.Laws.Sizes.{Every, words_of_result}
 use Rattle.mpl_mean.specs.Meaning.StatementMeaning.{Does, does}
 use Rattle.mpl_mean.specs.TypeRules.StatementNodes.{stmts_walk}
 use Rattle.mpl_mean.specs.Meaning.Store.{Store, Outcome, Goes, Returns, Ends, Variable, in_turn, spend, variable_named}
@@ -41,7 +41,7 @@ use Rattle.mpl_mean.proofs.Sizes.SizedScopes.{Moved, Moves, so_moves, still_move
 use Rattle.mpl_mean.proofs.Sizes.SizedSettings.{BelowFits, Matches, PlaceFits, PlainFits, Setting, Sound, frame, environment, inside}
 use Rattle.mpl_mean.proofs.Sizes.SizedStatementForms.{statements_act}
 use Rattle.mpl_mean.proofs.Sizes.SizedStatements.{acts_each}
-use Rattle.mpl_mean.proofs.Sizes.SizedSteps.{After, Fits, Frame, Keeps, VariableFits, Within, bare, spend_keeps}
+use Rattle.mpl_mean.proofs.Sizes.SizedSteps.{After, ArgIn, Fits, Frame, GivenIn, Keeps, VariableFits, Within, bare, spend_keeps}
 use Rattle.mpl_mean.proofs.Sizes.SizedTypes.{WellProgram}
 
 -- ---- a turn and the statements of a body
@@ -77,41 +77,42 @@ formals_match ds total name (formal ∷ formals) (words ∷ arguments) state par
       chosen true k = (refl, refl, w.0)
       chosen false k = k
 
-pub formals_fit : (ds : List Declaration) (formals : List Formal) (arguments : List (List ℤ)) → ListsFit ds formals arguments → Every (VariableFits ds) (formals_holding formals arguments)
-formals_fit ds [] arguments h = tt
-formals_fit ds (formal ∷ formals) [] h = absurd h
-formals_fit ds (formal ∷ formals) (words ∷ arguments) h = (h.0, formals_fit ds formals arguments h.1)
+pub formals_fit : (W : Type 0) (ds : List Declaration) (formals : List Formal) (arguments : List (List ℤ)) → ListsFit ds formals arguments → Every (VariableFits W ds) (formals_holding formals arguments)
+formals_fit W ds [] arguments h = tt
+formals_fit W ds (formal ∷ formals) [] h = absurd h
+formals_fit W ds (formal ∷ formals) (words ∷ arguments) h = (h.0, formals_fit W ds formals arguments h.1)
 
 -- ---- results
 
-pub end_fits : (ds : List Declaration) (type : ResultType) (line : ℕ) (r : BodyResult) → ResultFits (Some (words_of_result ds type)) r → ResultFits (Some (words_of_result ds type)) (result_at_end type line r)
-end_fits ds (Void at) line result.Open h = refl
-end_fits ds (Typed at type) line result.Open h = tt
-end_fits ds (Void at) line (result.Known known) h = h
-end_fits ds (Typed at type) line (result.Known known) h = h
-end_fits ds (Void at) line result.Unknown h = tt
-end_fits ds (Typed at type) line result.Unknown h = tt
+pub end_fits : (W : Type 0) (ds : List Declaration) (type : ResultType) (line : ℕ) (r : BodyResult) → GivenIn W (Some (words_of_result ds type)) r → GivenIn W (Some (words_of_result ds type)) (result_at_end type line r)
+end_fits W ds (Void at) line result.Open h = refl
+end_fits W ds (Typed at type) line result.Open h = tt
+end_fits W ds (Void at) line (result.Known known) h = h
+end_fits W ds (Typed at type) line (result.Known known) h = h
+end_fits W ds (Void at) line result.Unknown h = h
+end_fits W ds (Typed at type) line result.Unknown h = h
 
-pub at_fits : (n : Option ℕ) (e : BodyEnd) (r : BodyResult) → ResultFits n r → ResultFits n (result_at e r)
-at_fits None (end.Trap t) result.Open h = tt
-at_fits (Some n) (end.Trap t) result.Open h = tt
-at_fits n end.Done result.Open h = h
-at_fits n end.Waits result.Open h = h
-at_fits n end.Spent result.Open h = h
-at_fits n end.Done (result.Known known) h = h
-at_fits n end.Waits (result.Known known) h = h
-at_fits n end.Spent (result.Known known) h = h
-at_fits n (end.Trap t) (result.Known known) h = h
-at_fits n end.Done result.Unknown h = h
-at_fits n end.Waits result.Unknown h = h
-at_fits n end.Spent result.Unknown h = h
-at_fits n (end.Trap t) result.Unknown h = h
+pub at_fits : (W : Type 0) (n : Option ℕ) (e : BodyEnd) (r : BodyResult) → GivenIn W n r → GivenIn W n (result_at e r)
+at_fits W None (end.Trap t) result.Open h = tt
+at_fits W (Some n) (end.Trap t) result.Open h = tt
+at_fits W n end.Done result.Open h = h
+at_fits W n end.Waits result.Open h = h
+at_fits W n end.Spent result.Open h = h
+at_fits W n end.Done (result.Known known) h = h
+at_fits W n end.Waits (result.Known known) h = h
+at_fits W n end.Spent (result.Known known) h = h
+at_fits W n (end.Trap t) (result.Known known) h = h
+at_fits W n end.Done result.Unknown h = h
+at_fits W n end.Waits result.Unknown h = h
+at_fits W n end.Spent result.Unknown h = h
+at_fits W n (end.Trap t) result.Unknown h = h
 
-pub arg_of_fits : (n : ℕ) (r : BodyResult) → ResultFits (Some n) r → ArgFits n (arg_of_result r)
-arg_of_fits n result.Open h = tt
-arg_of_fits n (result.Known (known.Value words)) h = h
-arg_of_fits n (result.Known (known.Trapped t)) h = tt
-arg_of_fits n result.Unknown h = tt
+-- what a caller gets of a result that isn't open
+pub arg_of_fits : (W : Type 0) (n : ℕ) (r : BodyResult) → r ≢ result.Open → GivenIn ⊥ (Some n) r → ArgIn W n (arg_of_result r)
+arg_of_fits W n result.Open o h = absurd (o refl)
+arg_of_fits W n (result.Known (known.Value words)) o h = h
+arg_of_fits W n (result.Known (known.Trapped t)) o h = tt
+arg_of_fits W n result.Unknown o h = absurd h
 
 -- ---- settings of bodies that are called in place
 
@@ -129,12 +130,16 @@ module _ (ds : List Declaration) (well : WellProgram ds) (replies : FinMap nat_c
   context = context_with ds turns replies b
 
   -- for what is only to grow, nothing is asked
-  bare_sound : (state : ℕ) (result : Option ℕ) (calls : List CallMade) → Sound (frame ds replies state result calls (λ _. Unit {0})) (setting None NoBody [] context)
-  bare_sound state result calls = record {
+  bare_sound : (make wait : Type 0) (state : ℕ) (result : Option ℕ) (calls : List CallMade) → Sound (frame ds make wait replies state result calls (λ _. Unit {0})) (setting None NoBody [] context)
+  bare_sound make wait state result calls = record {
     well = well;
     state = λ name. tt;
     own = λ blocks name e. absurd cc;
     replies = λ e. absurd cc;
+    makes = λ e. absurd cc;
+    awaits = λ e. absurd cc;
+    own_class = λ e. absurd cc;
+    own_items = λ blocks e. absurd cc;
     result = λ r e. absurd cc;
     typed = λ r e. absurd cc;
     function_typed = λ t e. absurd cc;
@@ -142,13 +147,17 @@ module _ (ds : List Declaration) (well : WellProgram ds) (replies : FinMap nat_c
     callees = callees;
   }
 
-  function_sound : (state : ℕ) (result : Option ℕ) (calls : List CallMade) (f : Function) → PlainFits ds f
-      → Sound (frame ds replies state result calls (λ words. length words ≡ words_of ds f.result None)) (setting None (InFunction f.result) (declared_formals f.formals) context)
-  function_sound state result calls f fits = record {
+  function_sound : (make wait : Type 0) (state : ℕ) (result : Option ℕ) (calls : List CallMade) (f : Function) → PlainFits ds f
+      → Sound (frame ds make wait replies state result calls (λ words. length words ≡ words_of ds f.result None)) (setting None (InFunction f.result) (declared_formals f.formals) context)
+  function_sound make wait state result calls f fits = record {
     well = well;
     state = λ name. tt;
     own = λ blocks name e. absurd cc;
     replies = λ e. absurd cc;
+    makes = λ e. absurd cc;
+    awaits = λ e. absurd cc;
+    own_class = λ e. absurd cc;
+    own_items = λ blocks e. absurd cc;
     result = λ r e. absurd cc;
     typed = λ r e. absurd cc;
     function_typed = λ t e. subst (λ t. HasType ds t) (function_is e) fits.result;
@@ -156,21 +165,21 @@ module _ (ds : List Declaration) (well : WellProgram ds) (replies : FinMap nat_c
     callees = callees;
   }
 
-  pub plain_keeps : (state : ℕ) (result : Option ℕ) (calls : List CallMade) (May : List ℤ → Type 0) (vs : List Variable) (f : Function) (arguments : List (List ℤ))
-      → Keeps (frame ds replies state result calls May) vs (PlainFits ds f × ListsFit ds f.formals arguments) (List ℤ) (λ words. length words ≡ words_of ds f.result None) (plain_body context f arguments)
-  plain_keeps state result calls May vs f arguments = record {
+  pub plain_keeps : (make wait : Type 0) (state : ℕ) (result : Option ℕ) (calls : List CallMade) (May : List ℤ → Type 0) (vs : List Variable) (f : Function) (arguments : List (List ℤ))
+      → Keeps (frame ds make wait replies state result calls May) vs (PlainFits ds f × ListsFit ds f.formals arguments) (List ℤ) (λ words. length words ≡ words_of ds f.result None) (plain_body context f arguments)
+  plain_keeps make wait state result calls May vs f arguments = record {
     grows = λ s.
         grown s (run context f.body.statements (with_variables (formals_holding f.formals arguments) s))
-        ((run_moves (frame ds replies state result calls (λ _. Unit {0})) (setting None NoBody [] context) (bare_sound state result calls) [] f.body.statements).grows (with_variables (formals_holding f.formals arguments) s));
+        ((run_moves (frame ds make wait replies state result calls (λ _. Unit {0})) (setting None NoBody [] context) (bare_sound make wait state result calls) [] f.body.statements).grows (with_variables (formals_holding f.formals arguments) s));
     holds = λ s q w.
-        let G = frame ds replies state result calls (λ words. length words ≡ words_of ds f.result None) in
+        let G = frame ds make wait replies state result calls (λ words. length words ≡ words_of ds f.result None) in
         let S = setting None (InFunction f.result) (declared_formals f.formals) context in
         let o = run context f.body.statements (with_variables (formals_holding f.formals arguments) s) in
-        let t = run_moves G S (function_sound state result calls f q.0.0) (map bare (formals_holding f.formals arguments)) f.body.statements in
+        let t = run_moves G S (function_sound make wait state result calls f q.0.0) (map bare (formals_holding f.formals arguments)) f.body.statements in
         held s q o
         (t.holds (with_variables (formals_holding f.formals arguments) s) (
           (λ name. formals_match ds state name f.formals arguments [] None q.0.1 (q.0.0).routine.0 tt, (q.0.0).routine.1),
-          (refl, formals_fit ds f.formals arguments q.0.1, record { state = q.1.2.state; calls = q.1.2.calls; result = q.1.2.result }),
+          (refl, formals_fit wait ds f.formals arguments q.0.1, record { state = q.1.2.state; calls = q.1.2.calls; result = q.1.2.result }),
         )
         (inside_calls s o w));
   } where
@@ -179,18 +188,18 @@ module _ (ds : List Declaration) (well : WellProgram ds) (replies : FinMap nat_c
     grown s (Returns words after) h = h
     grown s (Ends e after) h = h
 
-    inside_calls : (s : Store) (o : Outcome (Unit {0})) → Within (frame ds replies state result calls May) (store_after (after_plain f s o))
-        → Within (frame ds replies state result calls (λ words. length words ≡ words_of ds f.result None)) (store_after o)
+    inside_calls : (s : Store) (o : Outcome (Unit {0})) → Within (frame ds make wait replies state result calls May) (store_after (after_plain f s o))
+        → Within (frame ds make wait replies state result calls (λ words. length words ≡ words_of ds f.result None)) (store_after o)
     inside_calls s (Goes value after) h = h
     inside_calls s (Returns words after) h = h
     inside_calls s (Ends e after) h = h
 
-    held : (s : Store) → (PlainFits ds f × ListsFit ds f.formals arguments) × Fits (frame ds replies state result calls May) vs s → (o : Outcome (Unit {0}))
-        → After (frame ds replies state result calls (λ words. length words ≡ words_of ds f.result None)) (λ _ t. Moved (frame ds replies state result calls (λ words. length words ≡ words_of ds f.result None))
-        (map bare (formals_holding f.formals arguments)) (RunReady (frame ds replies state result calls (λ words. length words ≡ words_of ds f.result None))
+    held : (s : Store) → (PlainFits ds f × ListsFit ds f.formals arguments) × Fits (frame ds make wait replies state result calls May) vs s → (o : Outcome (Unit {0}))
+        → After (frame ds make wait replies state result calls (λ words. length words ≡ words_of ds f.result None)) (λ _ t. Moved (frame ds make wait replies state result calls (λ words. length words ≡ words_of ds f.result None))
+        (map bare (formals_holding f.formals arguments)) (RunReady (frame ds make wait replies state result calls (λ words. length words ≡ words_of ds f.result None))
         (setting None (InFunction f.result) (declared_formals f.formals) context) (map bare (formals_holding f.formals arguments)) f.body.statements) (λ ws. Unit {0}) t) o
-        → After (frame ds replies state result calls May) (λ words t. ((PlainFits ds f × ListsFit ds f.formals arguments) × (length words ≡ words_of ds f.result None)) × Fits (frame ds replies state result calls May) vs t)
+        → After (frame ds make wait replies state result calls May) (λ words t. ((PlainFits ds f × ListsFit ds f.formals arguments) × (length words ≡ words_of ds f.result None)) × Fits (frame ds make wait replies state result calls May) vs t)
         (after_plain f s o)
-    held s q (Goes value after) i = let r = i.1.2.2 in record { state = r.state; calls = r.calls; result = r.result }
+    held s q (Goes value after) i = let r = i.1.2.2 in (record { state = r.state; calls = r.calls; result = r.result }, tt)
     held s q (Returns words after) i = let r = i.1 in ((q.0, i.0), (q.1.0, q.1.1, record { state = r.state; calls = r.calls; result = r.result }))
-    held s q (Ends e after) i = record { state = i.state; calls = i.calls; result = i.result }
+    held s q (Ends e after) i = let r = i.0 in (record { state = r.state; calls = r.calls; result = r.result }, i.1)

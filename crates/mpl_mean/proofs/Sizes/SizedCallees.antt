@@ -157,6 +157,9 @@ class_at ds d (Some (OneValue OfBool)) e i h = absurd cc
 class_at ds d (Some (OneValue (OfStruct n))) e i h = absurd cc
 class_at ds d (Some (AnArray t)) e i h = absurd cc
 
+pub class_there : {ds : List Declaration} → WellProgram ds → (t : TypeName) (s : Option Shape) → ClassOf ds t s → is_some (class_of_type ds t) ≡ true
+class_there well t s k = ap is_some (k.class ∙ (class_of well k.name k.meant k.regular k.items k.stands).found)
+
 -- ---- its member
 
 -- what is known of a member of a class: its number, and what a call in place asks for

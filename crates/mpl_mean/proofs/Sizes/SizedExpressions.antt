@@ -54,14 +54,14 @@ read_keeps G S well blocks vs t m n = location_keeps G S well blocks vs t words_
 called_keeps : (G : Frame) (S : Setting) (s : Sound G S) (vs : List Variable) {P : Type 0} (o : Option Function) (arguments : List (List ℤ))
     → (P → (f : Function) × (o ≡ Some f) × PlainFits G.declarations f × ListsFit G.declarations f.formals arguments)
     → Keeps G vs P Value (λ v. (f : Function) → o ≡ Some f → length v.words ≡ words_of G.declarations f.result None) (called (inside G S) o arguments)
-called_keeps G S s vs None arguments h = stop_keeps G vs _
+called_keeps G S s vs None arguments h = stop_keeps G vs _ (λ p. absurd (let e = (h p).1 in cc))
 called_keeps G S s vs (Some f) arguments h =
     then_keeps G vs
     (from_premise G vs
     (λ p.
     let g = h p in
     subst (λ f. PlainFits G.declarations f × ListsFit G.declarations f.formals arguments) (sym (some_is g.1)) (g.2, g.3))
-    ((s.callees).plain G.state_words G.result_words G.calls G.MayReturn vs f arguments))
+    ((s.callees).plain G.MayMake G.MayWait G.state_words G.result_words G.calls G.MayReturn vs f arguments))
     (λ words. give_keeps G vs _ (λ p g e. p.1 ∙ ap (λ (f : Function). words_of G.declarations f.result None) (some_is e)))
 
 -- ---- all expressions

@@ -2,6 +2,7 @@
 use Rattle.std.proofs.Common.{◌≡◌, ℕ, Bool, true, false, ◌&&◌, List, ◌++◌, Option, Some, None, refl, sym, ap, subst, ◌∙◌}
 use Rattle.std.specs.List.{AllZip}
 use Rattle.std.specs.Option.{option_and_then}
+use Rattle.std.specs.Prelude.{is_some}
 use Rattle.mpl_ast.specs.declared.expression.Target.{Target}
 use Rattle.mpl_ast.specs.declared.flow.Call.{Call}
 use Rattle.mpl_ast.specs.declared.flow.Flow.{Flow}
@@ -12,28 +13,30 @@ use Rattle.mpl_mean.specs.Meaning.CallMeaning.{MayName, Passes, at_context, call
 use Rattle.mpl_mean.specs.TypeRules.CallRules.{call_may_stand, can_be_called, member_takes}
 use Rattle.mpl_mean.specs.Meaning.ExpressionMeaning.{Evaluates}
 use Rattle.mpl_mean.specs.Meaning.Layout.{Class, Member, class_named, class_of_type, classes_of, member_named}
+use Rattle.mpl_mean.specs.TypeRules.NameRules.{has_member}
 use Rattle.mpl_mean.specs.TypeRules.Nodes.{call_nodes, nodes_of_each, expr_nodes, statement_call_nodes, target_nodes}
 use Rattle.mpl_mean.specs.TypeRules.Expr.{Expr, Exprs, expr_of, expr_of_call, expr_of_flow}
 use Rattle.mpl_mean.specs.TypeRules.Expr as expr
 use Rattle.mpl_mean.specs.Meaning.PlaceMeaning.{Location}
 use Rattle.mpl_mean.specs.TypeRules.Scopes.{Environment, is_in_member, is_persistent}
-use Rattle.mpl_mean.specs.Laws.Sizes.{ArgFits, ArgumentsFit, words_of_result}
+use Rattle.mpl_mean.specs.Laws.Sizes.{ArgumentsFit, words_of_result}
 use Rattle.mpl_mean.specs.Meaning.Store.{Step, Variable}
 use Rattle.mpl_mean.specs.TypeRules.Types.{Declared, ValueType, shape_of}
-use Rattle.mpl_mean.specs.TypeRules.Typing.{member_called, member_of, target_shape, type_of, types_of}
+use Rattle.mpl_mean.specs.TypeRules.Typing.{items_called, member_called, member_of, receiver_shape, target_shape, type_of, types_of}
 use Rattle.mpl_mean.specs.Meaning.Values.{first_word}
+use Rattle.mpl_mean.specs.Laws.Waiting.{HasPersistent}
 use Rattle.mpl_mean.proofs.Sizes.SizedAnswers.{IsMember, zip_from}
 use Rattle.mpl_mean.proofs.Sizes.SizedArguments.{ArgHas, args_fit}
-use Rattle.mpl_mean.proofs.Sizes.SizedCallees.{ClassOf, MemberOf, callees_of, class_at, regular_of}
+use Rattle.mpl_mean.proofs.Sizes.SizedCallees.{ClassOf, MemberOf, callees_of, class_at, class_there, regular_of}
 use Rattle.mpl_mean.proofs.Sizes.SizedCalls.{CallHas, bound_keeps, if_known, member_keeps, object_may, own_may, pass_keeps, passed_has, persistent_keeps, regular_keeps}
 use Rattle.mpl_mean.proofs.Sizes.SizedExpressionForms.{expression_means}
 use Rattle.mpl_mean.proofs.Sizes.SizedForms.{Means, number, truth, own, input, whole, element, plain, parenthesized, unary, arithmetic, compares, equates, or, and, PassesOn, PassesEach, on_own, on_target, expression}
 use Rattle.mpl_mean.proofs.Sizes.SizedForms as each
-use Rattle.mpl_mean.proofs.Sizes.SizedPlaces.{SpotRight, location_keeps, words_keeps}
+use Rattle.mpl_mean.proofs.Sizes.SizedPlaces.{which, SpotRight, location_keeps, words_keeps}
 use Rattle.mpl_mean.proofs.Sizes.SizedRules.{AllRight, Right, WellResult, every_left, every_right}
 use Rattle.mpl_mean.proofs.Sizes.SizedSettings.{Callee, CalleesMatch, Matches, MayCall, Setting, Sound, environment, inside}
 use Rattle.mpl_mean.proofs.Sizes.SizedStatementForms.{call_passes, flow_passes}
-use Rattle.mpl_mean.proofs.Sizes.SizedSteps.{Frame, Keeps, from_premise, so_keeps, stop_keeps, then_keeps}
+use Rattle.mpl_mean.proofs.Sizes.SizedSteps.{ArgIn, Frame, Keeps, from_premise, so_keeps, stop_keeps, then_keeps}
 use Rattle.mpl_mean.proofs.Sizes.SizedTypes.{WellProgram}
 use Rattle.mpl_mean.proofs.Truth.{both_true}
 
@@ -46,13 +49,19 @@ callee_seen ds R (Some n) (Some o) m c e = let h = subst (λ m. Callee ds m n ×
   some_member : {a b : Member} → ◌≡◌ {A = Option Member} (Some a) (Some b) → a ≡ b
   some_member e = cc
 
-callee_fits : {ds : List Declaration} → WellProgram ds → (ts : List (Option ValueType)) (n : Option Member) (m k : Member) → n ≡ Some k → Callee ds m k → member_takes ds n ts ≡ true
-    → (args : List Arg) → AllZip (ArgHas ds) ts args → ArgumentsFit ds m.formals args
-callee_fits {ds} well ts n m k e c h args a =
-    args_fit ds well ts m.formals args a (subst (λ fs. member_takes ds (Some (record k { formals = fs })) ts ≡ true) (sym c.formals) (subst (λ n. member_takes ds n ts ≡ true) e h)) c.well
+-- what the type rules find is there
+callee_there : (ds : List Declaration) (R : Member → Type 0) (n o : Option Member) → CalleesMatch ds R n o → is_some n ≡ true → is_some o ≡ true
+callee_there ds R None o c e = absurd cc
+callee_there ds R (Some n) None c e = absurd c
+callee_there ds R (Some n) (Some o) c e = refl
 
-call_has : (ds : List Declaration) (n : Option Member) (m k : Member) (a : Arg) → n ≡ Some k → Callee ds m k → ArgFits (words_of_result ds m.result) a → CallHas ds n a
-call_has ds n m k a e c h = subst (λ n. CallHas ds n a) (sym e) (subst (λ r. ArgFits (words_of_result ds r) a) c.result h, subst (λ r. WellResult ds r) c.result c.typed)
+callee_fits : (W : Type 0) {ds : List Declaration} → WellProgram ds → (ts : List (Option ValueType)) (n : Option Member) (m k : Member) → n ≡ Some k → Callee ds m k → member_takes ds n ts ≡ true
+    → (args : List Arg) → AllZip (ArgHas W ds) ts args → ArgumentsFit ds m.formals args
+callee_fits W {ds} well ts n m k e c h args a =
+    args_fit W ds well ts m.formals args a (subst (λ fs. member_takes ds (Some (record k { formals = fs })) ts ≡ true) (sym c.formals) (subst (λ n. member_takes ds n ts ≡ true) e h)) c.well
+
+call_has : (W : Type 0) (ds : List Declaration) (n : Option Member) (m k : Member) (a : Arg) → n ≡ Some k → Callee ds m k → ArgIn W (words_of_result ds m.result) a → CallHas W ds n a
+call_has W ds n m k a e c h = subst (λ n. CallHas W ds n a) (sym e) (subst (λ r. ArgIn W (words_of_result ds r) a) c.result h, subst (λ r. WellResult ds r) c.result c.typed)
 
 -- an expression is no call of a member
 no_call : {v : Evaluates} {p : Expr} {m : MayName} (h : Environment) → Means v p m → statement_call_nodes h p ≡ expr_nodes h p
@@ -73,7 +82,7 @@ no_call h (and at m n) = refl
 
 module _ (G : Frame) (S : Setting) (s : Sound G S) (blocks : List (List Declared)) (vs : List Variable) where
   abbrev EachKeeps : Type 0 → List (Option ValueType) → List (Step Arg) → Type 0
-  EachKeeps P ts fs = AllZip (λ t f. Keeps G vs P Arg (ArgHas G.declarations t) f) ts fs
+  EachKeeps P ts fs = AllZip (λ t f. Keeps G vs P Arg (ArgHas G.MayWait G.declarations t) f) ts fs
 
   abbrev CallReady : ℕ → Option Target → Name → Exprs → Type 0
   CallReady at receiver member ps =
@@ -85,16 +94,24 @@ module _ (G : Frame) (S : Setting) (s : Sound G S) (blocks : List (List Declared
   -- ---- on `self`
 
   own_keeps : {P : Type 0} (at : ℕ) (member : Name) (ps : Exprs) (fs : List (Step Arg)) → (P → CallReady at None member ps) → EachKeeps P (types_of (environment G S blocks) ps) fs
-      → Keeps G vs P Arg (CallHas G.declarations (Called None member)) (call_of_member (member_named member.text S.context.members) (λ m. persistent_call (inside G S) S.context.object m fs))
+      → Keeps G vs P Arg (CallHas G.MayWait G.declarations (Called None member)) (call_of_member (member_named member.text S.context.members) (λ m. persistent_call (inside G S) S.context.object m fs))
   own_keeps {P} at member ps fs ready r =
-      member_keeps G vs (member_named member.text S.context.members) (λ m. persistent_call (inside G S) S.context.object m fs)
+      member_keeps G vs (member_named member.text S.context.members) (λ m. persistent_call (inside G S) S.context.object m fs) there
       (λ m.
-      so_keeps G vs (λ p. p) (λ a p h. let c = seen m p in call_has G.declarations (Called None member) m c.0 a c.1 c.2 h)
-      (persistent_keeps G S s blocks vs S.context.object m (types_of (environment G S blocks) ps) fs (zip_from G vs (ArgHas G.declarations) (λ p. p.0) _ fs r) (λ p. (seen m p).3)
-      (λ p. let c = seen m p in callee_fits s.well (types_of (environment G S blocks) ps) (Called None member) m c.0 c.1 c.2 (both_true _ _ ((ready p.0).1).0.call).1)
-      (λ p. own_may S.body S.class (own p.0)))) where
+      so_keeps G vs (λ p. p) (λ a p h. let c = seen m p in call_has G.MayWait G.declarations (Called None member) m c.0 a c.1 c.2 h)
+      (persistent_keeps G S s blocks vs S.context.object m (types_of (environment G S blocks) ps) fs (zip_from G vs (ArgHas G.MayWait G.declarations) (λ p. p.0) _ fs r) (λ p. (seen m p).3)
+      (λ p. let c = seen m p in callee_fits G.MayWait s.well (types_of (environment G S blocks) ps) (Called None member) m c.0 c.1 c.2 (both_true _ _ ((ready p.0).1).0.call).1)
+      (λ p. own_may S.body S.class (own p.0)) (λ p. s.own_class (both_true (is_in_member S.body) (is_persistent S.class) (own p.0)).1))) where
         own : P → (is_in_member S.body && is_persistent S.class) ≡ true
         own p = ((ready p).1).1.1.0.own
+
+        there : P → is_some (member_named member.text S.context.members) ≡ true
+        there p =
+            let persistent = (both_true (is_in_member S.body) (is_persistent S.class) (own p)).1 in
+            let items = which (items_called G.declarations (receiver_shape (environment G S blocks) None)) (s.own_items blocks persistent) in
+            callee_there G.declarations (IsMember G.declarations) (member_of member.text items.0) (member_named member.text S.context.members)
+            (subst (λ o. CalleesMatch G.declarations (IsMember G.declarations) (option_and_then (member_of member.text) o) (member_named member.text S.context.members)) items.1 (s.own blocks member.text persistent))
+            (subst (λ o. has_member member.text o ≡ true) items.1 ((ready p).1).1.0.known)
 
         seen : (m : Member) → P × (member_named member.text S.context.members ≡ Some m) → (k : Member) × (Called None member ≡ Some k) × Callee G.declarations m k × IsMember G.declarations m
         seen m p =
@@ -136,11 +153,22 @@ module _ (G : Frame) (S : Setting) (s : Sound G S) (blocks : List (List Declared
         (subst (λ n. CalleesMatch G.declarations (MemberOf G.declarations k.regular) n (member_named member.text class.members)) (sym (ap (option_and_then (member_of member.text)) k.called))
         (callees_of s.well k.name k.meant k.regular k.items k.stands class (class_is location class i p) member.text)) e
 
+    -- the member is one of the class
+    there : (location : Location) (class : Class) → class_of_type G.declarations location.type ≡ Some class → (p : P × SpotRight G S blocks vs t (Some location)) → is_some (member_named member.text class.members) ≡ true
+    there location class i p =
+        let k = (class_seen location p).2 in
+        callee_there G.declarations (MemberOf G.declarations k.regular) (member_of member.text k.items) (member_named member.text class.members)
+        (callees_of s.well k.name k.meant k.regular k.items k.stands class (class_is location class i p) member.text)
+        (subst (λ items. has_member member.text items ≡ true) k.called ((ready p.0).1).1.0.known)
+
+    has : (location : Location) (class : Class) → class_of_type G.declarations location.type ≡ Some class → (p : P × SpotRight G S blocks vs t (Some location)) → class.is_regular ≡ false → HasPersistent G.declarations
+    has location class i p e = record { name = ((class_seen location p).2).name; class = class; named = class_is location class i p; persistent = e }
+
     takes : {Q : Type 0} → (Q → P) → (location : Location) (class : Class) → class_of_type G.declarations location.type ≡ Some class → (m : Member) → (Q → SpotRight G S blocks vs t (Some location))
-        → (Q → member_named member.text class.members ≡ Some m) → Q → (args : List Arg) → AllZip (ArgHas G.declarations) (types_of (environment G S blocks) ps) args → ArgumentsFit G.declarations m.formals args
+        → (Q → member_named member.text class.members ≡ Some m) → Q → (args : List Arg) → AllZip (ArgHas G.MayWait G.declarations) (types_of (environment G S blocks) ps) args → ArgumentsFit G.declarations m.formals args
     takes h location class i m located e q =
         let c = seen location class i m (h q, located q) (e q) in
-        callee_fits s.well (types_of (environment G S blocks) ps) (Called (Some t) member) m c.0 c.1 c.2 (both_true _ _ ((ready (h q)).1).0.call).1
+        callee_fits G.MayWait s.well (types_of (environment G S blocks) ps) (Called (Some t) member) m c.0 c.1 c.2 (both_true _ _ ((ready (h q)).1).0.call).1
 
     may : (location : Location) (class : Class) → class_of_type G.declarations location.type ≡ Some class → (p : P × SpotRight G S blocks vs t (Some location)) → class.is_regular ≡ false → MayCall S
     may location class i p e =
@@ -149,29 +177,31 @@ module _ (G : Frame) (S : Setting) (s : Sound G S) (blocks : List (List Declared
         object_may S.body (is_persistent S.class) n.0 (subst (λ w. call_may_stand S.body (is_persistent S.class) w ≡ true) n.1 ((ready p.0).1).0.in_place)
 
     on_class : (location : Location) (c : Option Class) → class_of_type G.declarations location.type ≡ c
-        → Keeps G vs (P × SpotRight G S blocks vs t (Some location)) Arg (CallHas G.declarations (Called (Some t) member)) (call_on (inside G S) line (Some location) c member.text fs)
-    on_class location None i = stop_keeps G vs _
+        → Keeps G vs (P × SpotRight G S blocks vs t (Some location)) Arg (CallHas G.MayWait G.declarations (Called (Some t) member)) (call_on (inside G S) line (Some location) c member.text fs)
+    on_class location None i =
+        stop_keeps G vs _
+        (λ p. absurd (let e : is_some (class_of_type G.declarations location.type) ≡ true = class_there s.well location.type _ ((class_seen location p).2) in let j : is_some (class_of_type G.declarations location.type) ≡ false = ap is_some i in cc))
     on_class location (Some class) i =
         if_known G vs class.is_regular
-        (member_keeps G vs (member_named member.text class.members) _ (λ m.
-        so_keeps G vs (λ p. p) (λ a p h. let c = seen location class i m p.0.0 p.1 in call_has G.declarations (Called (Some t) member) m c.0 a c.1 c.2 h)
-        (regular_keeps G S s blocks vs m (types_of (environment G S blocks) ps) fs (zip_from G vs (ArgHas G.declarations) (λ p. p.0.0.0) _ fs r)
+        (member_keeps G vs (member_named member.text class.members) _ (λ p. there location class i p.0) (λ m.
+        so_keeps G vs (λ p. p) (λ a p h. let c = seen location class i m p.0.0 p.1 in call_has G.MayWait G.declarations (Called (Some t) member) m c.0 a c.1 c.2 h)
+        (regular_keeps G S s blocks vs m (types_of (environment G S blocks) ps) fs (zip_from G vs (ArgHas G.MayWait G.declarations) (λ p. p.0.0.0) _ fs r)
         (λ p. (seen location class i m p.0.0 p.1).3.in_place (sym (regular_is location class i p.0.0) ∙ p.0.1))
         (takes (λ p. p.0.0.0) location class i m (λ p. p.0.0.1) (λ p. p.1)))))
         (then_keeps G vs (words_keeps G S blocks vs t (Some location) (λ p. p.0.1)) (λ value.
         then_keeps G vs (bound_keeps G vs line (first_word value.words)) (λ object.
-        member_keeps G vs (member_named member.text class.members) (λ m. persistent_call (inside G S) object m fs) (λ m.
-        so_keeps G vs (λ p. p) (λ a p h. let c = seen location class i m p.0.0.0.0 p.1 in call_has G.declarations (Called (Some t) member) m c.0 a c.1 c.2 h)
-        (persistent_keeps G S s blocks vs object m (types_of (environment G S blocks) ps) fs (zip_from G vs (ArgHas G.declarations) (λ p. p.0.0.0.0.0) _ fs r)
+        member_keeps G vs (member_named member.text class.members) (λ m. persistent_call (inside G S) object m fs) (λ p. there location class i p.0.0.0) (λ m.
+        so_keeps G vs (λ p. p) (λ a p h. let c = seen location class i m p.0.0.0.0 p.1 in call_has G.MayWait G.declarations (Called (Some t) member) m c.0 a c.1 c.2 h)
+        (persistent_keeps G S s blocks vs object m (types_of (environment G S blocks) ps) fs (zip_from G vs (ArgHas G.MayWait G.declarations) (λ p. p.0.0.0.0.0) _ fs r)
         (λ p. (seen location class i m p.0.0.0.0 p.1).3.is)
-        (takes (λ p. p.0.0.0.0.0) location class i m (λ p. p.0.0.0.0.1) (λ p. p.1)) (λ p. may location class i p.0.0.0.0 p.0.0.0.1))))))
+        (takes (λ p. p.0.0.0.0.0) location class i m (λ p. p.0.0.0.0.1) (λ p. p.1)) (λ p. may location class i p.0.0.0.0 p.0.0.0.1) (λ p. has location class i p.0.0.0.0 p.0.0.0.1))))))
 
     at_location : (location : Option Location)
-        → Keeps G vs (P × SpotRight G S blocks vs t location) Arg (CallHas G.declarations (Called (Some t) member)) (call_on (inside G S) line location (class_of_location (inside G S) location) member.text fs)
-    at_location None = stop_keeps G vs _
+        → Keeps G vs (P × SpotRight G S blocks vs t location) Arg (CallHas G.MayWait G.declarations (Called (Some t) member)) (call_on (inside G S) line location (class_of_location (inside G S) location) member.text fs)
+    at_location None = stop_keeps G vs _ (λ p. absurd (p.1).fits)
     at_location (Some location) = on_class location (class_of_type G.declarations location.type) refl
 
-    target_keeps : Keeps G vs P Arg (CallHas G.declarations (Called (Some t) member)) (call_on_target (inside G S) line t member.text fs)
+    target_keeps : Keeps G vs P Arg (CallHas G.MayWait G.declarations (Called (Some t) member)) (call_on_target (inside G S) line t member.text fs)
     target_keeps =
         location_keeps G S s.well blocks vs t (λ location. call_on (inside G S) line location (class_of_location (inside G S) location) member.text fs) (λ p. (ready p).0)
         (λ p. every_left Right (target_nodes (environment G S blocks) t) (nodes_of_each (environment G S blocks) ps) ((ready p).1).1.1) at_location
@@ -194,32 +224,32 @@ module _ (G : Frame) (S : Setting) (s : Sound G S) (blocks : List (List Declared
   )
 
   mutual
-    pub passes_keeps : {f : Passes} {p : Expr} → PassesOn f p → Keeps G vs (Ready p) Arg (ArgHas G.declarations (type_of (environment G S blocks) p)) (f (inside G S))
+    pub passes_keeps : {f : Passes} {p : Expr} → PassesOn f p → Keeps G vs (Ready p) Arg (ArgHas G.MayWait G.declarations (type_of (environment G S blocks) p)) (f (inside G S))
     passes_keeps (on_own {fs = fs} {ps = ps} at member m) =
-        so_keeps G vs (λ r. r) (λ a r h. passed_has s.well (Called None member) a (r.1).0.passed h)
+        so_keeps G vs (λ r. r) (λ a r h. passed_has G.MayWait s.well (Called None member) a (r.1).0.passed h)
         (own_keeps at member ps (at_context (inside G S) fs) (λ r. (r.0, (r.1).1))
-        (zip_from G vs (ArgHas G.declarations) (λ r. arguments_ready at None member ps (r.0, (r.1).1)) _ _ (each_passes_keeps m)))
+        (zip_from G vs (ArgHas G.MayWait G.declarations) (λ r. arguments_ready at None member ps (r.0, (r.1).1)) _ _ (each_passes_keeps m)))
     passes_keeps (on_target {fs = fs} {ps = ps} at line t member m) =
-        so_keeps G vs (λ r. r) (λ a r h. passed_has s.well (Called (Some t) member) a (r.1).0.passed h)
+        so_keeps G vs (λ r. r) (λ a r h. passed_has G.MayWait s.well (Called (Some t) member) a (r.1).0.passed h)
         (target_keeps at line t member ps (at_context (inside G S) fs) (λ r. (r.0, (r.1).1))
-        (zip_from G vs (ArgHas G.declarations) (λ r. arguments_ready at (Some t) member ps (r.0, (r.1).1)) _ _ (each_passes_keeps m)))
+        (zip_from G vs (ArgHas G.MayWait G.declarations) (λ r. arguments_ready at (Some t) member ps (r.0, (r.1).1)) _ _ (each_passes_keeps m)))
     passes_keeps (expression e) = pass_keeps G S s blocks vs e
 
     pub each_passes_keeps : {fs : List Passes} {ps : Exprs} → PassesEach fs ps → EachKeeps (ReadyEach ps) (types_of (environment G S blocks) ps) (at_context (inside G S) fs)
     each_passes_keeps each.PassesEach.none = tt
     each_passes_keeps (each.PassesEach.more {p = p} {ps = ps} m ms) =
-        (from_premise G vs (λ q. (each_ready p ps q).0) (passes_keeps m), zip_from G vs (ArgHas G.declarations) (λ q. (each_ready p ps q).1) _ _ (each_passes_keeps ms))
+        (from_premise G vs (λ q. (each_ready p ps q).0) (passes_keeps m), zip_from G vs (ArgHas G.MayWait G.declarations) (λ q. (each_ready p ps q).1) _ _ (each_passes_keeps ms))
 
-  pub flow_keeps : (f : Flow) → Keeps G vs (Ready (expr_of_flow f)) Arg (ArgHas G.declarations (type_of (environment G S blocks) (expr_of_flow f))) (passes f (inside G S))
+  pub flow_keeps : (f : Flow) → Keeps G vs (Ready (expr_of_flow f)) Arg (ArgHas G.MayWait G.declarations (type_of (environment G S blocks) (expr_of_flow f))) (passes f (inside G S))
   flow_keeps f = passes_keeps (flow_passes f)
 
   alone_keeps : {f : Passes} {p : Expr} → PassesOn f p → Keeps G vs (Matches G S blocks vs × AllRight (statement_call_nodes (environment G S blocks) p)) Arg (λ _. Unit {0}) (f (inside G S))
   alone_keeps (on_own {fs = fs} {ps = ps} at member m) =
       so_keeps G vs (λ r. r) (λ a r h. tt)
-      (own_keeps at member ps (at_context (inside G S) fs) (λ r. r) (zip_from G vs (ArgHas G.declarations) (arguments_ready at None member ps) _ _ (each_passes_keeps m)))
+      (own_keeps at member ps (at_context (inside G S) fs) (λ r. r) (zip_from G vs (ArgHas G.MayWait G.declarations) (arguments_ready at None member ps) _ _ (each_passes_keeps m)))
   alone_keeps (on_target {fs = fs} {ps = ps} at line t member m) =
       so_keeps G vs (λ r. r) (λ a r h. tt)
-      (target_keeps at line t member ps (at_context (inside G S) fs) (λ r. r) (zip_from G vs (ArgHas G.declarations) (arguments_ready at (Some t) member ps) _ _ (each_passes_keeps m)))
+      (target_keeps at line t member ps (at_context (inside G S) fs) (λ r. r) (zip_from G vs (ArgHas G.MayWait G.declarations) (arguments_ready at (Some t) member ps) _ _ (each_passes_keeps m)))
   alone_keeps (expression e) =
       so_keeps G vs (λ r. (r.0, subst AllRight (no_call (environment G S blocks) (expression_means e)) r.1)) (λ a r h. tt) (pass_keeps G S s blocks vs e)
 

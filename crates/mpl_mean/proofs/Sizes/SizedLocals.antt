@@ -139,13 +139,13 @@ module _ (G : Frame) (S : Setting) (s : Sound G S) (type : TypeName) where
   one_moves blocks vs (Initialized at variable value) =
       let h = environment G S blocks in
       let d = declared_local type (new_local (Initialized at variable value)) in
-      keeps_then_moves (ArgHas G.declarations (type_of h (expr_of_flow value))) (Matches G S (with_last d blocks))
+      keeps_then_moves (ArgHas G.MayWait G.declarations (type_of h (expr_of_flow value))) (Matches G S (with_last d blocks))
       (from_premise G vs (λ p. (p.0, every_left Right (expr_nodes h (expr_of_flow value)) [] (p.1).1.1)) (flow_keeps G S s blocks vs value))
       (λ a.
       declare_moves (Matches G S (with_last d blocks)) _
       (λ p.
       let two = both_true (is_no_regular (shape_of G.declarations (Some d))) (agree (type_of_whole (shape_of G.declarations (Some d))) (type_of h (expr_of_flow value))) (p.0.1).1.0.right_side in
-      agree_arg G.declarations (type_of_whole (shape_of G.declarations (Some d))) (type_of h (expr_of_flow value)) (words_of G.declarations type None) a
+      agree_arg G.MayWait G.declarations (type_of_whole (shape_of G.declarations (Some d))) (type_of h (expr_of_flow value)) (words_of G.declarations type None) a
       (whole_size s.well d (words_of G.declarations type None) (shape_of G.declarations (Some d)) refl (local_shape None (meant G.declarations type) p.0.2)
       (one_of G.declarations variable.text type (shape_of G.declarations (Some d)) refl two.0) refl) two.1 p.1)
       (λ p. matches_more G S blocks vs d _ (refl, refl, refl) (local_shape None (meant G.declarations type) p.0.2, tt) (not_true _ (p.0.1).0.new) p.0.0))

@@ -75,33 +75,33 @@ struct_type {ds} well role (type.Named at name) n e = named (meant_by name.text 
 -- ---- spots
 
 -- the words of a spot are among those of its variable, or of the state
-abbrev pub BaseFits : List Declaration → ℕ → List Variable → Option Variable → ℕ → ℕ → Bool → Type 0
-BaseFits ds total vs None offset words is_whole = offset + words ≤ total
-BaseFits ds total vs (Some v) offset words is_whole =
-    (offset + words ≤ variable_words ds v) × VariableFits ds v × (variable_named v.name vs ≡ Some (bare v)) × (is_whole ≡ true → words ≡ variable_words ds v)
+abbrev pub BaseFits : Type 0 → List Declaration → ℕ → List Variable → Option Variable → ℕ → ℕ → Bool → Type 0
+BaseFits W ds total vs None offset words is_whole = offset + words ≤ total
+BaseFits W ds total vs (Some v) offset words is_whole =
+    (offset + words ≤ variable_words ds v) × VariableFits W ds v × (variable_named v.name vs ≡ Some (bare v)) × (is_whole ≡ true → words ≡ variable_words ds v)
 
-pub record SpotFits (ds : List Declaration) (total : ℕ) (vs : List Variable) (d : Declared) (location : Location) : Type 0 where
+pub record SpotFits (W : Type 0) (ds : List Declaration) (total : ℕ) (vs : List Variable) (d : Declared) (location : Location) : Type 0 where
   pub type : location.type ≡ d.type
   pub words : location.words ≡ words_of ds d.type (dimension_of d.dimension)
-  pub base : BaseFits ds total vs location.variable location.offset location.words location.is_whole
+  pub base : BaseFits W ds total vs location.variable location.offset location.words location.is_whole
   pub well : WellDeclared ds d
 
-abbrev pub SpotMaybe : List Declaration → ℕ → List Variable → Option Declared → Option Location → Type 0
-SpotMaybe ds total vs None None = Unit {0}
-SpotMaybe ds total vs None (Some location) = ⊥
-SpotMaybe ds total vs (Some d) None = ⊥
-SpotMaybe ds total vs (Some d) (Some location) = SpotFits ds total vs d location
+abbrev pub SpotMaybe : Type 0 → List Declaration → ℕ → List Variable → Option Declared → Option Location → Type 0
+SpotMaybe W ds total vs None None = Unit {0}
+SpotMaybe W ds total vs None (Some location) = ⊥
+SpotMaybe W ds total vs (Some d) None = ⊥
+SpotMaybe W ds total vs (Some d) (Some location) = SpotFits W ds total vs d location
 
-part_location : (ds : List Declaration) (total : ℕ) (vs : List Variable) (d : Option Declared) (part : Option Part) → PartFits ds total d part → SpotMaybe ds total vs d (location_of_part None 0 part)
-part_location ds total vs None None h = tt
-part_location ds total vs None (Some part) h = absurd h
-part_location ds total vs (Some d) None h = absurd h
-part_location ds total vs (Some d) (Some part) h = let i = h.inside in record { type = h.type; words = h.words; base = omega arith; well = h.well }
+part_location : (W : Type 0) (ds : List Declaration) (total : ℕ) (vs : List Variable) (d : Option Declared) (part : Option Part) → PartFits ds total d part → SpotMaybe W ds total vs d (location_of_part None 0 part)
+part_location W ds total vs None None h = tt
+part_location W ds total vs None (Some part) h = absurd h
+part_location W ds total vs (Some d) None h = absurd h
+part_location W ds total vs (Some d) (Some part) h = let i = h.inside in record { type = h.type; words = h.words; base = omega arith; well = h.well }
 
-variable_location : (ds : List Declaration) (total : ℕ) (vs : List Variable) (v : Variable) (d : Option Declared) → VariableOf ds d (bare v) → VariableFits ds v → variable_named v.name vs ≡ Some (bare v)
-    → SpotMaybe ds total vs d (Some (record { variable = Some v; offset = 0; words = words_of ds v.type v.dimension; type = v.type; is_whole = true }))
-variable_location ds total vs v None h f e = absurd h
-variable_location ds total vs v (Some d) h f e = record {
+variable_location : (W : Type 0) (ds : List Declaration) (total : ℕ) (vs : List Variable) (v : Variable) (d : Option Declared) → VariableOf ds d (bare v) → VariableFits W ds v → variable_named v.name vs ≡ Some (bare v)
+    → SpotMaybe W ds total vs d (Some (record { variable = Some v; offset = 0; words = words_of ds v.type v.dimension; type = v.type; is_whole = true }))
+variable_location W ds total vs v None h f e = absurd h
+variable_location W ds total vs v (Some d) h f e = record {
   type = h.0;
   words = ap (λ t. words_of ds t v.dimension) h.0 ∙ ap (words_of ds d.type) h.1;
   base = (omega arith, f, e, λ _. refl);
@@ -109,13 +109,13 @@ variable_location ds total vs v (Some d) h f e = record {
 }
 
 name_location : (G : Frame) (S : Setting) (blocks : List (List Declared)) (vs : List Variable) (name : List ℕ) (v : Option Variable) → Matches G S blocks vs
-    → FoundAs G.declarations (variable_named name vs) name v
-    → SpotMaybe G.declarations G.state_words vs (variable_of (environment G S blocks) name) (location_of_name (inside G S) v name)
+    → FoundAs G.MayWait G.declarations (variable_named name vs) name v
+    → SpotMaybe G.MayWait G.declarations G.state_words vs (variable_of (environment G S blocks) name) (location_of_name (inside G S) v name)
 name_location G S blocks vs name None m f =
-    part_location G.declarations G.state_words vs (variable_of (environment G S blocks) name) (part_named name S.context.state)
+    part_location G.MayWait G.declarations G.state_words vs (variable_of (environment G S blocks) name) (part_named name S.context.state)
     (subst (λ u. PlaceFits G.declarations G.state_words (variable_of (environment G S blocks) name) u (part_named name S.context.state)) f (m name))
 name_location G S blocks vs name (Some v) m f =
-    variable_location G.declarations G.state_words vs v (variable_of (environment G S blocks) name)
+    variable_location G.MayWait G.declarations G.state_words vs v (variable_of (environment G S blocks) name)
     (subst (λ u. PlaceFits G.declarations G.state_words (variable_of (environment G S blocks) name) u (part_named name S.context.state)) f.0 (m name)) f.1
     (ap (λ w. variable_named w vs) f.2 ∙ f.0)
 
@@ -123,19 +123,19 @@ name_location G S blocks vs name (Some v) m f =
 pub record SpotRight (G : Frame) (S : Setting) (blocks : List (List Declared)) (vs : List Variable) (t : Target) (location : Option Location) : Type 0 where
   pub declared : Declared
   pub shape : target_shape (environment G S blocks) t ≡ shape_of G.declarations (Some declared)
-  pub fits : SpotMaybe G.declarations G.state_words vs (Some declared) location
+  pub fits : SpotMaybe G.MayWait G.declarations G.state_words vs (Some declared) location
 
-pub field_base : (ds : List Declaration) (total : ℕ) (vs : List Variable) (v : Option Variable) (offset words more size : ℕ) (is_whole : Bool) → BaseFits ds total vs v offset words is_whole → more + size ≤ words
-    → BaseFits ds total vs v (offset + more) size false
-field_base ds total vs None offset words more size is_whole h k = omega arith
-field_base ds total vs (Some v) offset words more size is_whole h k = let i = h.0 in (omega arith, h.1, h.2, λ e. absurd cc)
+pub field_base : (W : Type 0) (ds : List Declaration) (total : ℕ) (vs : List Variable) (v : Option Variable) (offset words more size : ℕ) (is_whole : Bool) → BaseFits W ds total vs v offset words is_whole → more + size ≤ words
+    → BaseFits W ds total vs v (offset + more) size false
+field_base W ds total vs None offset words more size is_whole h k = omega arith
+field_base W ds total vs (Some v) offset words more size is_whole h k = let i = h.0 in (omega arith, h.1, h.2, λ e. absurd cc)
 
-field_part : (ds : List Declaration) (total : ℕ) (vs : List Variable) (location : Location) (d : Declared) (f : Declared) (part : Option Part) → SpotFits ds total vs d location → (n : ℕ) → n ≡ location.words → PartFits ds n (Some f) part
-    → SpotMaybe ds total vs (Some f) (location_of_part location.variable location.offset part)
-field_part ds total vs location d f None h n e k = absurd k
-field_part ds total vs location d f (Some part) h n e k =
+field_part : (W : Type 0) (ds : List Declaration) (total : ℕ) (vs : List Variable) (location : Location) (d : Declared) (f : Declared) (part : Option Part) → SpotFits W ds total vs d location → (n : ℕ) → n ≡ location.words → PartFits ds n (Some f) part
+    → SpotMaybe W ds total vs (Some f) (location_of_part location.variable location.offset part)
+field_part W ds total vs location d f None h n e k = absurd k
+field_part W ds total vs location d f (Some part) h n e k =
     let i = k.inside in
-    record { type = k.type; words = k.words; base = field_base ds total vs location.variable location.offset location.words part.offset part.words location.is_whole h.base (omega arith); well = k.well }
+    record { type = k.type; words = k.words; base = field_base W ds total vs location.variable location.offset location.words part.offset part.words location.is_whole h.base (omega arith); well = k.well }
 
 pub which : {A : Type 0} (o : Option A) → is_some o ≡ true → (a : A) × (o ≡ Some a)
 which None e = absurd cc
@@ -143,13 +143,13 @@ which (Some a) e = (a, refl)
 
 -- a field of a variable that is a struct
 field_location : (G : Frame) (S : Setting) (blocks : List (List Declared)) (vs : List Variable) (well : WellProgram G.declarations) (variable field : List ℕ) (d : Option Declared) (location : Option Location)
-    → is_some d ≡ true → is_struct (shape_of G.declarations d) ≡ true → has_field G.declarations field (shape_of G.declarations d) ≡ true → SpotMaybe G.declarations G.state_words vs d location
-    → (f : Declared) × (shape_behind_dot G.declarations field (shape_of G.declarations d) ≡ shape_of G.declarations (Some f)) × SpotMaybe G.declarations G.state_words vs (Some f) (field_of_location (inside G S) field location)
+    → is_some d ≡ true → is_struct (shape_of G.declarations d) ≡ true → has_field G.declarations field (shape_of G.declarations d) ≡ true → SpotMaybe G.MayWait G.declarations G.state_words vs d location
+    → (f : Declared) × (shape_behind_dot G.declarations field (shape_of G.declarations d) ≡ shape_of G.declarations (Some f)) × SpotMaybe G.MayWait G.declarations G.state_words vs (Some f) (field_of_location (inside G S) field location)
 field_location G S blocks vs well variable field None location i j k h = absurd cc
 field_location G S blocks vs well variable field (Some d) None i j k h = absurd h
 field_location G S blocks vs well variable field (Some d) (Some location) i j k h = shaped (shape_of G.declarations (Some d)) refl h.well.0 j k where
   shaped : (s : Option Shape) → shape_of G.declarations (Some d) ≡ s → is_some s ≡ true → is_struct s ≡ true → has_field G.declarations field s ≡ true
-      → (f : Declared) × (shape_behind_dot G.declarations field s ≡ shape_of G.declarations (Some f)) × SpotMaybe G.declarations G.state_words vs (Some f) (field_of_location (inside G S) field (Some location))
+      → (f : Declared) × (shape_behind_dot G.declarations field s ≡ shape_of G.declarations (Some f)) × SpotMaybe G.MayWait G.declarations G.state_words vs (Some f) (field_of_location (inside G S) field (Some location))
   shaped None e i j k = absurd cc
   shaped (Some (OneValue (OfStruct n))) e i j k =
       let v = value_of_shape d.role d.dimension (meant G.declarations d.type) (OfStruct n) e in
@@ -163,7 +163,7 @@ field_location G S blocks vs well variable field (Some d) (Some location) i j k 
       (parts_fit G.declarations (words_of_parts (parts_of G.declarations st.fields)) field InStruct 0 st.fields st.well (omega arith)) in (
         f.0,
         ap (shape_of_field G.declarations field) st.meant ∙ ap (shape_of G.declarations) f.1,
-        field_part G.declarations G.state_words vs location d f.0 (part_named field (parts_of_type G.declarations location.type)) h (words_of_parts (parts_of G.declarations st.fields)) total
+        field_part G.MayWait G.declarations G.state_words vs location d f.0 (part_named field (parts_of_type G.declarations location.type)) h (words_of_parts (parts_of G.declarations st.fields)) total
             (subst (λ ps. PartFits G.declarations (words_of_parts (parts_of G.declarations st.fields)) (Some f.0) (part_named field ps)) (sym parts) part),
       )
   shaped (Some (OneValue OfInt)) e i j k = absurd cc
@@ -179,18 +179,18 @@ pub location_keeps : (G : Frame) (S : Setting) (well : WellProgram G.declaration
 location_keeps G S well blocks vs {P} (target.Variable at name) h m n r =
     look_keeps G vs name.text (λ v. h (location_of_name (inside G S) v name.text))
     (λ v. from_premise G vs (λ p. (p.0, right v p)) (r (location_of_name (inside G S) v name.text))) where
-      right : (v : Option Variable) → P × FoundAs G.declarations (variable_named name.text vs) name.text v → SpotRight G S blocks vs (target.Variable at name) (location_of_name (inside G S) v name.text)
+      right : (v : Option Variable) → P × FoundAs G.MayWait G.declarations (variable_named name.text vs) name.text v → SpotRight G S blocks vs (target.Variable at name) (location_of_name (inside G S) v name.text)
       right v p =
           let d = which (variable_of (environment G S blocks) name.text) (n p.0).0.known in
           record {
             declared = d.0;
             shape = ap (shape_of G.declarations) d.1;
-            fits = subst (λ d. SpotMaybe G.declarations G.state_words vs d (location_of_name (inside G S) v name.text)) d.1 (name_location G S blocks vs name.text v (m p.0) p.1);
+            fits = subst (λ d. SpotMaybe G.MayWait G.declarations G.state_words vs d (location_of_name (inside G S) v name.text)) d.1 (name_location G S blocks vs name.text v (m p.0) p.1);
           }
 location_keeps G S well blocks vs {P} (target.Field at name field) h m n r =
     look_keeps G vs name.text (λ v. h (field_of_location (inside G S) field.text (location_of_name (inside G S) v name.text)))
     (λ v. from_premise G vs (λ p. (p.0, right v p)) (r (field_of_location (inside G S) field.text (location_of_name (inside G S) v name.text)))) where
-      right : (v : Option Variable) → P × FoundAs G.declarations (variable_named name.text vs) name.text v
+      right : (v : Option Variable) → P × FoundAs G.MayWait G.declarations (variable_named name.text vs) name.text v
           → SpotRight G S blocks vs (target.Field at name field) (field_of_location (inside G S) field.text (location_of_name (inside G S) v name.text))
       right v p =
           let nodes = n p.0 in
@@ -203,7 +203,7 @@ location_keeps G S well blocks vs {P} (target.Field at name field) h m n r =
 same_location : {a b : Location} → ◌≡◌ {A = Option Location} (Some a) (Some b) → a ≡ b
 same_location e = cc
 
-pub base_keeps : (G : Frame) (vs : List Variable) {P : Type 0} (v : Option Variable) (offset words : ℕ) (is_whole : Bool) → (P → BaseFits G.declarations G.state_words vs v offset words is_whole)
+pub base_keeps : (G : Frame) (vs : List Variable) {P : Type 0} (v : Option Variable) (offset words : ℕ) (is_whole : Bool) → (P → BaseFits G.MayWait G.declarations G.state_words vs v offset words is_whole)
     → Keeps G vs P (List ℤ) (λ ws. offset + words ≤ length ws) (base_of v)
 base_keeps G vs None offset words is_whole h = so_keeps G vs (λ p. p) (λ ws p e. let i = h p in omega arith) (state_keeps G vs)
 base_keeps G vs (Some v) offset words is_whole h = so_keeps G vs (λ p. p) (λ ws p e. let i = (h p).0 in omega arith) (force_keeps G vs (variable_words G.declarations v) v.holds (λ p. (h p).1))
@@ -216,7 +216,7 @@ words_keeps G S blocks vs t (Some location) r =
     (λ words. give_keeps G vs _ (λ p s e. words_at_long location.offset location.words words p.1 ∙ ap (λ (o : Location). o.words) (same_location e)))
 
 pub put_keeps : (G : Frame) (vs : List Variable) {P : Type 0} (v : Option Variable) (offset : ℕ) (is_whole : Bool) (new : List ℤ)
-    → (P → (words : ℕ) × (length new ≤ words) × BaseFits G.declarations G.state_words vs v offset words is_whole) → Keeps G vs P (Unit {0}) (λ _. Unit {0}) (put v offset new)
+    → (P → (words : ℕ) × (length new ≤ words) × BaseFits G.MayWait G.declarations G.state_words vs v offset words is_whole) → Keeps G vs P (Unit {0}) (λ _. Unit {0}) (put v offset new)
 put_keeps G vs None offset is_whole new h = restates_keeps G vs offset new (λ p. let i = h p in let j = i.1 in let k = i.2 in omega arith)
 put_keeps G vs (Some v) offset is_whole new h =
     so_keeps G vs (λ p. p) (λ a p e. tt)
@@ -230,7 +230,7 @@ put_keeps G vs (Some v) offset is_whole new h =
     (bare v, i.2.2, with_words_long offset new old (omega arith) ∙ e))))
 
 tested_keeps : (G : Frame) (vs : List Variable) {P : Type 0} (line dimension : ℕ) (o : Option ℕ) → ((n : ℕ) → o ≡ Some n → n + 1 ≤ dimension) → Keeps G vs P ℕ (λ n. n + 1 ≤ dimension) (tested_index line o)
-tested_keeps G vs line dimension None h = stop_keeps G vs _
+tested_keeps G vs line dimension None h = stop_keeps G vs _ (λ p. tt)
 tested_keeps G vs line dimension (Some n) h = give_keeps G vs n (λ p. h n refl)
 
 index_inside : (dimension : ℕ) (z : ℤ) (n : ℕ) → index_below dimension z ≡ Some n → n + 1 ≤ dimension

@@ -44,7 +44,7 @@ pub keeps_then_moves : {G : Frame} {vs : List Variable} {P : Type 0} {A : Type 0
 keeps_then_moves {G} {vs} {P} {A} V Q {f} {h} t r =
     then_triple G (λ s. P × Fits G vs s) (λ a s. (P × V a) × Fits G vs s) (λ _ s. Moved G vs P Q s) f h t (λ a. concludes G (λ _ s q. (q.0.0, q.1)) (r a))
 
-pub declare_moves : {G : Frame} {vs : List Variable} {P : Type 0} (Q : List Variable → Type 0) (v : Variable) → (P → VariableFits G.declarations v) → (P → Q (bare v ∷ vs))
+pub declare_moves : {G : Frame} {vs : List Variable} {P : Type 0} (Q : List Variable → Type 0) (v : Variable) → (P → VariableFits G.MayWait G.declarations v) → (P → Q (bare v ∷ vs))
     → Moves G vs P Q (declare v)
 declare_moves {G} {vs} Q v m r = record {
   grows = λ s. front_itself s.calls;

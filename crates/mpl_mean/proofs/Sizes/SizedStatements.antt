@@ -18,7 +18,6 @@ use Rattle.mpl_mean.specs.Meaning.Layout.{words_of}
 use Rattle.mpl_mean.specs.TypeRules.Nodes.{expr_nodes}
 use Rattle.mpl_mean.specs.TypeRules.Expr.{Expr, expr_of, expr_of_flow}
 use Rattle.mpl_mean.specs.TypeRules.Scopes.{Body, InFunction, InGuard, InMain, InMember, NoBody, in_block}
-use Rattle.mpl_mean.specs.Laws.Sizes.{ArgFits}
 use Rattle.mpl_mean.specs.Meaning.StatementMeaning.{Does, Effect, declares_all, gives_result, line_of, loop, nothing, returns, steps, values_of, while_loop}
 use Rattle.mpl_mean.specs.Meaning.StatementMeaning as statement
 use Rattle.mpl_mean.specs.TypeRules.StatementNodes.{stmt_walk, stmts_walk, print_walk}
@@ -40,7 +39,7 @@ use Rattle.mpl_mean.proofs.Sizes.SizedPlaces.{which}
 use Rattle.mpl_mean.proofs.Sizes.SizedRules.{AllRight, HasType, Right, every_left, every_right}
 use Rattle.mpl_mean.proofs.Sizes.SizedScopes.{Moves, scope_keeps, so_moves, still_moves, then_moves}
 use Rattle.mpl_mean.proofs.Sizes.SizedSettings.{Matches, ReturnFits, Setting, Sound, environment, inside}
-use Rattle.mpl_mean.proofs.Sizes.SizedSteps.{Frame, Keeps, front_itself, from_premise, give_keeps, if_keeps, so_keeps, then_keeps}
+use Rattle.mpl_mean.proofs.Sizes.SizedSteps.{ArgIn, Frame, Keeps, front_itself, from_premise, give_keeps, if_keeps, so_keeps, then_keeps}
 use Rattle.mpl_mean.proofs.Sizes.SizedStores.{loops_keep, prints_keeps, results_keeps}
 use Rattle.mpl_mean.proofs.Sizes.SizedTypes.{HasSize, WellProgram, same_size, size, type_words}
 use Rattle.mpl_mean.proofs.Sizes.SizedBlocks.{after_is, blocks_after, loop_nodes, step_after}
@@ -53,19 +52,19 @@ result_size {ds} well type (Some t) n w h e =
     let v = which (value_type AsResult (meant ds type)) w in
     h ∙ (same_size ds t v.0 (subst (λ o. agree (Some t) o ≡ true) v.1 e) ∙ sym (type_words well AsResult type v.0 v.1))
 
-result_arg : {ds : List Declaration} → WellProgram ds → (type : TypeName) (t : Option ValueType) (a : Arg) → HasType ds type → ArgHas ds t a → agree t (value_type AsResult (meant ds type)) ≡ true
-    → ArgFits (words_of ds type None) a
-result_arg well type None a w h e = absurd h
-result_arg {ds} well type (Some t) a w h e = subst (λ n. ArgFits n a) (result_size well type (Some t) (size ds t) w refl e) h
+result_arg : (W : Type 0) {ds : List Declaration} → WellProgram ds → (type : TypeName) (t : Option ValueType) (a : Arg) → HasType ds type → ArgHas W ds t a → agree t (value_type AsResult (meant ds type)) ≡ true
+    → ArgIn W (words_of ds type None) a
+result_arg W well type None a w h e = absurd h
+result_arg W {ds} well type (Some t) a w h e = subst (λ n. ArgIn W n a) (result_size well type (Some t) (size ds t) w refl e) h
 
 module _ (G : Frame) (S : Setting) (s : Sound G S) where
   abbrev Keeps-Effect : List Variable → Type 0 → Effect → Type 0
   Keeps-Effect vs P f = Keeps G vs P (Unit {0}) (λ _. Unit {0}) f
 
-  gives_fit : (blocks : List (List Declared)) (p : Expr) (a : Arg) (body : Body) → S.body ≡ body → can_give (environment G S blocks) body p ≡ true → ArgHas G.declarations (type_of (environment G S blocks) p) a
-      → (n : ℕ) × (G.result_words ≡ Some n) × ArgFits n a
+  gives_fit : (blocks : List (List Declared)) (p : Expr) (a : Arg) (body : Body) → S.body ≡ body → can_give (environment G S blocks) body p ≡ true → ArgHas G.MayWait G.declarations (type_of (environment G S blocks) p) a
+      → (n : ℕ) × (G.result_words ≡ Some n) × ArgIn G.MayWait n a
   gives_fit blocks p a (InMember (Typed at type)) i e h =
-      (words_of G.declarations type None, s.result (Typed at type) i, result_arg s.well type (type_of (environment G S blocks) p) a (s.typed (Typed at type) i) h e)
+      (words_of G.declarations type None, s.result (Typed at type) i, result_arg G.MayWait s.well type (type_of (environment G S blocks) p) a (s.typed (Typed at type) i) h e)
   gives_fit blocks p a (InMember (Void at)) i e h = absurd cc
   gives_fit blocks p a NoBody i e h = absurd cc
   gives_fit blocks p a InGuard i e h = absurd cc

@@ -1,5 +1,5 @@
 -- What a step of a body keeps: the variables in scope, and the sizes of what it holds, gives and makes.
-use Rattle.std.proofs.Common.{◌≡◌, ℕ, ◌+◌, Bool, true, false, List, [], ◌∷◌, length, map, Option, if◌then◌else◌, nat_lt, ℤ, Result, Ok, Err, refl, subst}
+use Rattle.std.proofs.Common.{◌≡◌, ℕ, ◌+◌, Bool, true, false, List, [], ◌∷◌, length, map, Option, Some, None, if◌then◌else◌, nat_lt, ℤ, Result, Ok, Err, refl, subst}
 use Rattle.std.specs.FinMap.{FinMap}
 use Rattle.std.specs.Ordering.{nat_cmp}
 use Rattle.mpl_ast.specs.declared.program.Declaration.{Declaration}
@@ -8,18 +8,20 @@ use Rattle.mpl_value.specs.declared.body.Arg.TheVariants.{Know, Trapped, Unknown
 use Rattle.mpl_value.specs.declared.body.BodyEnd.{BodyEnd}
 use Rattle.mpl_value.specs.declared.body.BodyEnd.TheVariants as end
 use Rattle.mpl_value.specs.declared.body.BodyResult.{BodyResult}
+use Rattle.mpl_value.specs.declared.body.BodyResult.TheVariants as result
 use Rattle.mpl_value.specs.declared.body.CallMade.{CallMade}
 use Rattle.mpl_value.specs.declared.known.Known.{Known}
+use Rattle.mpl_value.specs.declared.known.Known.TheVariants as known
 use Rattle.mpl_value.specs.declared.known.TrapKind.{TrapKind}
 use Rattle.mpl_mean.specs.Meaning.Layout.{words_of}
 use Rattle.mpl_value.specs.Growing.{IsFront}
-use Rattle.mpl_mean.specs.Laws.Sizes.{ArgFits, CallFits, Every, ResultFits}
+use Rattle.mpl_mean.specs.Laws.Sizes.{CallFits, Every}
 use Rattle.mpl_mean.specs.Meaning.Store.{Store, Outcome, Goes, Returns, Ends, Step, Variable, ◌>>=◌, and_then, pure, stop, spend, computed, force}
 use Rattle.mpl_mean.proofs.MoreReplies.Follows.{store_after}
 use Rattle.mpl_mean.proofs.MoreReplies.Later.{Begins-itself}
 
 -- What stays the same while a body runs: the program and its replies, the words of the state and of the result, all
--- calls in the end, and what a function may return.
+-- calls in the end, what a function may return, and what holds where a call is made.
 pub record Frame : Type 1 where
   pub declarations : List Declaration
   pub replies : FinMap nat_cmp Known
@@ -27,6 +29,9 @@ pub record Frame : Type 1 where
   pub result_words : Option ℕ
   pub calls : List CallMade
   pub MayReturn : List ℤ → Type 0
+  pub MayMake : Type 0
+  -- what holds where something isn't known
+  pub MayWait : Type 0
 
 -- a variable, whatever it holds
 abbrev pub bare : Variable → Variable
@@ -35,26 +40,53 @@ bare v = record v { holds = Unknown }
 abbrev pub variable_words : List Declaration → Variable → ℕ
 variable_words ds v = words_of ds v.type v.dimension
 
-abbrev pub VariableFits : List Declaration → Variable → Type 0
-VariableFits ds v = ArgFits (variable_words ds v) v.holds
+-- a value of so many words, or one that isn't known where that may be
+abbrev pub ArgIn : Type 0 → ℕ → Arg → Type 0
+ArgIn W words (Know value) = length value ≡ words
+ArgIn W words (Trapped t) = Unit {0}
+ArgIn W words Unknown = W
+
+-- the same of a result
+abbrev pub GivenIn : Type 0 → Option ℕ → BodyResult → Type 0
+GivenIn W (Some words) (result.Known (known.Value value)) = length value ≡ words
+GivenIn W None (result.Known (known.Value value)) = ⊥
+GivenIn W words result.Unknown = W
+GivenIn W words other = Unit {0}
+
+-- how a body may end before its last statement
+abbrev pub MayEnd : Type 0 → BodyEnd → Type 0
+MayEnd W end.Done = ⊥
+MayEnd W (end.Trap t) = Unit {0}
+MayEnd W end.Waits = W
+MayEnd W end.Spent = Unit {0}
+
+abbrev pub VariableFits : Type 0 → List Declaration → Variable → Type 0
+VariableFits W ds v = ArgIn W (variable_words ds v) v.holds
+
+abbrev pub CallRight : Frame → CallMade → Type 0
+CallRight G call = CallFits G.declarations call × G.MayMake
+
+pub calls_fit : (ds : List Declaration) (make : Type 0) (calls : List CallMade) → Every (λ call. CallFits ds call × make) calls → Every (CallFits ds) calls
+calls_fit ds make [] h = tt
+calls_fit ds make (call ∷ calls) h = (h.0.0, calls_fit ds make calls h.1)
 
 pub record RestFits (G : Frame) (words : List ℤ) (made : List CallMade) (given : BodyResult) : Type 0 where
   pub state : length words ≡ G.state_words
-  pub calls : Every (CallFits G.declarations) made
-  pub result : ResultFits G.result_words given
+  pub calls : Every (CallRight G) made
+  pub result : GivenIn G.MayWait G.result_words given
 
 abbrev pub Rest : Frame → Store → Type 0
 Rest G s = RestFits G s.state s.calls s.result
 
 -- a store with these variables in scope, in which all has its size
 abbrev pub Fits : Frame → List Variable → Store → Type 0
-Fits G vs s = (map bare s.variables ≡ vs) × Every (VariableFits G.declarations) s.variables × Rest G s
+Fits G vs s = (map bare s.variables ≡ vs) × Every (VariableFits G.MayWait G.declarations) s.variables × Rest G s
 
 -- what is shown of an outcome
 abbrev pub After : Frame → {A : Type 0} → (A → Store → Type 0) → Outcome A → Type 0
 After G Q (Goes value s) = Q value s
 After G Q (Returns words s) = G.MayReturn words × Rest G s
-After G Q (Ends e s) = Rest G s
+After G Q (Ends e s) = Rest G s × MayEnd G.MayWait e
 
 -- the calls of a store are among those in the end
 abbrev pub Within : Frame → Store → Type 0
@@ -131,8 +163,8 @@ module _ (G : Frame) (vs : List Variable) where
   pub give_keeps : {P : Type 0} {A : Type 0} {V : A → Type 0} (a : A) → (P → V a) → Keeps G vs P A V (pure a)
   give_keeps a v = record { grows = λ s. front_itself s.calls; holds = λ s q w. ((q.0, v q.0), q.1) }
 
-  pub stop_keeps : {P : Type 0} {A : Type 0} {V : A → Type 0} (e : BodyEnd) → Keeps G vs P A V (stop e)
-  stop_keeps e = record { grows = λ s. front_itself s.calls; holds = λ s q w. q.1.2 }
+  pub stop_keeps : {P : Type 0} {A : Type 0} {V : A → Type 0} (e : BodyEnd) → (P → MayEnd G.MayWait e) → Keeps G vs P A V (stop e)
+  stop_keeps e m = record { grows = λ s. front_itself s.calls; holds = λ s q w. (q.1.2, m q.0) }
 
   pub if_keeps : {P : Type 0} {A : Type 0} {V : A → Type 0} (test : Bool) {f h : Step A} → Keeps G vs P A V f → Keeps G vs P A V h → Keeps G vs P A V (if test then f else h)
   if_keeps true t u = t
@@ -147,13 +179,13 @@ module _ (G : Frame) (vs : List Variable) where
     held : (b : Bool) (s : Store) → P × Fits G vs s
         → After G {A = Unit {0}} (λ _ s. (P × Unit {0}) × Fits G vs s) (if b then Goes tt (record s { turns = s.turns + 1 }) else Ends end.Spent (record s { turns = s.turns + 1 }))
     held true s q = ((q.0, tt), q.1)
-    held false s q = q.1.2
+    held false s q = (q.1.2, tt)
 
   pub computes : {P : Type 0} (line : ℕ) (r : Result ℤ TrapKind) → Keeps G vs P ℤ (λ _. Unit {0}) (computed line r)
   computes line (Ok z) = give_keeps z (λ p. tt)
-  computes line (Err kind) = stop_keeps _
+  computes line (Err kind) = stop_keeps _ (λ p. tt)
 
-  pub force_keeps : {P : Type 0} (n : ℕ) (a : Arg) → (P → ArgFits n a) → Keeps G vs P (List ℤ) (λ words. length words ≡ n) (force a)
+  pub force_keeps : {P : Type 0} (n : ℕ) (a : Arg) → (P → ArgIn G.MayWait n a) → Keeps G vs P (List ℤ) (λ words. length words ≡ n) (force a)
   force_keeps n (Know words) h = give_keeps words h
-  force_keeps n (Trapped t) h = stop_keeps _
-  force_keeps n Unknown h = stop_keeps _
+  force_keeps n (Trapped t) h = stop_keeps _ (λ p. tt)
+  force_keeps n Unknown h = stop_keeps _ h

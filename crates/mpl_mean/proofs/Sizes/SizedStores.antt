@@ -12,14 +12,14 @@ use Rattle.mpl_mean.specs.Meaning.Context.{Context}
 use Rattle.mpl_mean.specs.Meaning.ExpressionMeaning.{next_of, next_number}
 use Rattle.mpl_mean.specs.Meaning.Layout.{Class}
 use Rattle.mpl_value.specs.Growing.{IsFront}
-use Rattle.mpl_mean.specs.Laws.Sizes.{ArgFits, Every, ResultFits}
+use Rattle.mpl_mean.specs.Laws.Sizes.{Every}
 use Rattle.mpl_mean.specs.Meaning.StatementMeaning.{Effect, created, give_result, gives_result, while_loop}
 use Rattle.mpl_value.specs.Results.{result_of}
 use Rattle.mpl_mean.specs.Meaning.Store.{Store, Goes, Step, Variable, hold, holding, printed, variable_named}
 use Rattle.mpl_value.specs.Words.{with_words, words_at}
 use Rattle.mpl_mean.specs.Meaning.Values.{Value, is_true}
 use Rattle.mpl_mean.proofs.MoreReplies.Follows.{store_after}
-use Rattle.mpl_mean.proofs.Sizes.SizedSteps.{Frame, Keeps, Fits, VariableFits, After, bare, variable_words, front_itself, give_keeps, stop_keeps, spend_keeps, then_keeps, from_premise, if_keeps}
+use Rattle.mpl_mean.proofs.Sizes.SizedSteps.{ArgIn, Frame, GivenIn, Keeps, Fits, VariableFits, After, bare, variable_words, front_itself, give_keeps, stop_keeps, spend_keeps, then_keeps, from_premise, if_keeps}
 use Rattle.mpl_mean.proofs.Truth.{some_is}
 
 -- ---- words
@@ -51,26 +51,26 @@ bare_holding name a (v ∷ vs) = chosen (bytes_eq v.name name) (bare_holding nam
   chosen false e = ap (λ ws. bare v ∷ ws) e
 
 -- what the newest variable of this name may hold
-abbrev pub MayHold : List Declaration → List ℕ → Arg → List Variable → Type 0
-MayHold ds name a vs = (w : Variable) × (variable_named name vs ≡ Some w) × ArgFits (variable_words ds w) a
+abbrev pub MayHold : Type 0 → List Declaration → List ℕ → Arg → List Variable → Type 0
+MayHold W ds name a vs = (w : Variable) × (variable_named name vs ≡ Some w) × ArgIn W (variable_words ds w) a
 
-pub holding_fits : (ds : List Declaration) (name : List ℕ) (a : Arg) (vs : List Variable) → MayHold ds name a (map bare vs) → Every (VariableFits ds) vs → Every (VariableFits ds) (holding name a vs)
-holding_fits ds name a [] m h = tt
-holding_fits ds name a (v ∷ vs) m h = chosen (bytes_eq v.name name) m.1 (holding_fits ds name a vs) where
-  chosen : (b : Bool) → (if b then Some (bare v) else variable_named name (map bare vs)) ≡ Some m.0 → (MayHold ds name a (map bare vs) → Every (VariableFits ds) vs → Every (VariableFits ds) (holding name a vs))
-      → Every (VariableFits ds) (if b then record v { holds = a } ∷ vs else v ∷ holding name a vs)
-  chosen true e k = (subst (λ (w : Variable). ArgFits (variable_words ds w) a) (sym (some_is e)) m.2, h.1)
+pub holding_fits : (W : Type 0) (ds : List Declaration) (name : List ℕ) (a : Arg) (vs : List Variable) → MayHold W ds name a (map bare vs) → Every (VariableFits W ds) vs → Every (VariableFits W ds) (holding name a vs)
+holding_fits W ds name a [] m h = tt
+holding_fits W ds name a (v ∷ vs) m h = chosen (bytes_eq v.name name) m.1 (holding_fits W ds name a vs) where
+  chosen : (b : Bool) → (if b then Some (bare v) else variable_named name (map bare vs)) ≡ Some m.0 → (MayHold W ds name a (map bare vs) → Every (VariableFits W ds) vs → Every (VariableFits W ds) (holding name a vs))
+      → Every (VariableFits W ds) (if b then record v { holds = a } ∷ vs else v ∷ holding name a vs)
+  chosen true e k = (subst (λ (w : Variable). ArgIn W (variable_words ds w) a) (sym (some_is e)) m.2, h.1)
   chosen false e k = (h.0, k (m.0, e, m.2) h.1)
 
 module _ (G : Frame) (vs : List Variable) where
-  pub hold_keeps : {P : Type 0} (name : List ℕ) (a : Arg) → (P → MayHold G.declarations name a vs) → Keeps G vs P (Unit {0}) (λ _. Unit {0}) (hold name a)
+  pub hold_keeps : {P : Type 0} (name : List ℕ) (a : Arg) → (P → MayHold G.MayWait G.declarations name a vs) → Keeps G vs P (Unit {0}) (λ _. Unit {0}) (hold name a)
   hold_keeps name a m = record {
     grows = λ s. front_itself s.calls;
     holds = λ s q w. (
       (q.0, tt),
       (
         bare_holding name a s.variables ∙ q.1.0,
-        holding_fits G.declarations name a s.variables (subst (λ vs. MayHold G.declarations name a vs) (sym q.1.0) (m q.0)) q.1.1,
+        holding_fits G.MayWait G.declarations name a s.variables (subst (λ vs. MayHold G.MayWait G.declarations name a vs) (sym q.1.0) (m q.0)) q.1.1,
         q.1.2,
       ),
     );
@@ -101,7 +101,7 @@ module _ (G : Frame) (vs : List Variable) where
     grown (z ∷ input) s = front_itself s.calls
 
     held : (input : List ℤ) (s : Store) → P × Fits G vs s → After G (λ (v : Value) s. (P × (length v.words ≡ 1)) × Fits G vs s) (next_of line input s)
-    held [] s q = q.1.2
+    held [] s q = (q.1.2, tt)
     held (z ∷ input) s q = ((q.0, refl), q.1)
 
   pub created_keeps : {P : Type 0} (x : Context) (class : Class) → Keeps G vs P ℤ (λ _. Unit {0}) (created x class)
@@ -109,12 +109,12 @@ module _ (G : Frame) (vs : List Variable) where
 
   -- ---- results
 
-  given_fits : (a : Arg) (words : Option ℕ) (n : ℕ) → words ≡ Some n → ArgFits n a → ResultFits words (result_of a)
-  given_fits (Know value) words n e h = subst (λ w. ResultFits w (result_of (Know value))) (sym e) h
-  given_fits (Trapped t) words n e h = subst (λ w. ResultFits w (result_of (Trapped t))) (sym e) tt
-  given_fits Unknown words n e h = subst (λ w. ResultFits w (result_of Unknown)) (sym e) tt
+  given_fits : (a : Arg) (words : Option ℕ) (n : ℕ) → words ≡ Some n → ArgIn G.MayWait n a → GivenIn G.MayWait words (result_of a)
+  given_fits (Know value) words n e h = subst (λ w. GivenIn G.MayWait w (result_of (Know value))) (sym e) h
+  given_fits (Trapped t) words n e h = subst (λ w. GivenIn G.MayWait w (result_of (Trapped t))) (sym e) tt
+  given_fits Unknown words n e h = subst (λ w. GivenIn G.MayWait w (result_of Unknown)) (sym e) h
 
-  pub results_keeps : {P : Type 0} (line : ℕ) (a : Arg) → (P → (n : ℕ) × (G.result_words ≡ Some n) × ArgFits n a) → Keeps G vs P (Unit {0}) (λ _. Unit {0}) (gives_result line a)
+  pub results_keeps : {P : Type 0} (line : ℕ) (a : Arg) → (P → (n : ℕ) × (G.result_words ≡ Some n) × ArgIn G.MayWait n a) → Keeps G vs P (Unit {0}) (λ _. Unit {0}) (gives_result line a)
   results_keeps {P} line a m = record { grows = λ s. grown s.result s; holds = λ s q w. held s.result s q } where
     grown : (r : BodyResult) (s : Store) → IsFront s.calls (store_after (give_result line a r s)).calls
     grown result.Open s = front_itself s.calls
@@ -124,14 +124,14 @@ module _ (G : Frame) (vs : List Variable) where
     held : (r : BodyResult) (s : Store) → P × Fits G vs s → After G (λ _ s. (P × Unit {0}) × Fits G vs s) (give_result line a r s)
     held result.Open s q =
         ((q.0, tt), (q.1.0, q.1.1, record { state = q.1.2.state; calls = q.1.2.calls; result = let i = m q.0 in given_fits a G.result_words i.0 i.1 i.2 }))
-    held (result.Known known) s q = q.1.2
-    held result.Unknown s q = q.1.2
+    held (result.Known known) s q = (q.1.2, tt)
+    held result.Unknown s q = (q.1.2, tt)
 
   -- ---- loops
 
   pub loops_keep : {P : Type 0} {V : Value → Type 0} (fuel turns : ℕ) {f : Step Value} {h : Effect} → Keeps G vs P Value V f → Keeps G vs P (Unit {0}) (λ _. Unit {0}) h
       → Keeps G vs P (Unit {0}) (λ _. Unit {0}) (while_loop fuel turns f h)
-  loops_keep zero turns t u = stop_keeps G vs end.Spent
+  loops_keep zero turns t u = stop_keeps G vs end.Spent (λ p. tt)
   loops_keep {P} {V} (suc fuel) turns {f} {h} t u =
       then_keeps G vs (spend_keeps G vs turns) (λ _.
       then_keeps G vs (from_premise G vs (λ p. p.0) t) (λ v.

@@ -1,5 +1,5 @@
 -- What a program does, in a form that computes.
-use Rattle.std.proofs.Common.{◌≡◌, ℕ, zero, suc, List, [], map, Option, Some, None, ℤ, refl, ap, ◌∙◌}
+use Rattle.std.proofs.Common.{◌≡◌, ℕ, zero, suc, List, [], map, Option, Some, None, ℤ, refl, ap, ap₂, ◌∙◌}
 use Rattle.std.specs.Fmt.{digits}
 use Rattle.std.specs.FinMap.{FinMap, empty}
 use Rattle.std.specs.Ordering.{nat_cmp}
@@ -41,10 +41,10 @@ plain_by d context f arguments store = ended (run_by d context f.body.statements
   ended (Ends e after) = Ends e (with_variables store.variables after)
 
 -- what is called one level up from what is called below
-abbrev one_up : Doer → List Declaration → ℕ → FinMap nat_cmp Known → Callees → Callees
-one_up d ds turns replies callees = record {
+abbrev one_up : Doer → List Declaration → ℕ → FinMap nat_cmp Known → Callees → Callees → Callees
+one_up d ds turns replies callees alone = record {
   plain = λ f arguments. plain_by d (context_with ds turns replies callees) f arguments;
-  regular = λ m arguments. regular_by d (context_with ds turns replies callees) m arguments;
+  regular = λ m arguments. regular_by d (context_with ds turns empty alone) m arguments;
 }
 
 abbrev callees_by : Doer → ℕ → List Declaration → ℕ → FinMap nat_cmp Known → Callees
@@ -52,11 +52,14 @@ callees_by d zero ds turns replies = record {
   plain = λ f arguments. spend turns >> stop end.Spent;
   regular = λ m arguments. spend turns >> stop end.Spent;
 }
-callees_by d (suc level) ds turns replies = one_up d ds turns replies (callees_by d level ds turns replies)
+callees_by d (suc level) ds turns replies = record {
+  plain = λ f arguments. plain_by d (context_with ds turns replies (callees_by d level ds turns replies)) f arguments;
+  regular = λ m arguments. regular_by d (context_with ds turns empty (callees_by d level ds turns empty)) m arguments;
+}
 
 callees_is : (level : ℕ) (ds : List Declaration) (turns : ℕ) (replies : FinMap nat_cmp Known) → callees_at level ds turns replies ≡ callees_by does level ds turns replies
 callees_is zero ds turns replies = refl
-callees_is (suc level) ds turns replies = ap (one_up does ds turns replies) (callees_is level ds turns replies)
+callees_is (suc level) ds turns replies = ap₂ (one_up does ds turns replies) (callees_is level ds turns replies) (callees_is level ds turns empty)
 
 abbrev member_by : Doer → Context → BodyStart → Option (Class × Member) → Yield
 member_by d context start None = main_yield (Ends end.Waits (store_with [] start.state start.input 0))

@@ -1,6 +1,6 @@
 -- What a body does, from its start to its end.
-use Rattle.std.specs.Prelude.{ℕ, zero, suc, List, [], ◌∷◌, map, take, drop, codes, Option, Some, None, ℤ, pos}
-use Rattle.std.specs.FinMap.{FinMap}
+use Rattle.std.specs.Prelude.{ℕ, zero, suc, List, [], ◌∷◌, map, take, drop, codes, Option, Some, None, if◌then◌else◌, ℤ, pos}
+use Rattle.std.specs.FinMap.{FinMap, empty}
 use Rattle.std.specs.Ordering.{nat_cmp}
 use Rattle.mpl_ast.specs.declared.class.Formal.{Formal}
 use Rattle.mpl_ast.specs.declared.class.ResultType.{ResultType}
@@ -120,7 +120,8 @@ context_with ds turns replies callees = record {
   callees = callees;
 }
 
--- What is called so many levels deep. Each start spends a turn, so at level 0 none is left.
+-- What is called so many levels deep. A regular member's body stands for itself and has no replies. Each start spends a
+-- turn, so at level 0 none is left.
 abbrev pub callees_at : ℕ → List Declaration → ℕ → FinMap nat_cmp Known → Callees
 callees_at zero ds turns replies = record {
   plain = λ f arguments. spend turns >> stop end.Spent;
@@ -128,7 +129,7 @@ callees_at zero ds turns replies = record {
 }
 callees_at (suc level) ds turns replies = record {
   plain = λ f arguments. plain_body (context_with ds turns replies (callees_at level ds turns replies)) f arguments;
-  regular = λ m arguments. regular_body (context_with ds turns replies (callees_at level ds turns replies)) m arguments;
+  regular = λ m arguments. regular_body (context_with ds turns empty (callees_at level ds turns empty)) m arguments;
 }
 
 -- ---- the yield of a body
@@ -170,9 +171,18 @@ abbrev pub member_of_classes : ℕ → List Class → Option (Class × Member)
 member_of_classes id [] = None
 member_of_classes id (class ∷ classes) = member_or class (member_numbered id class.members) (member_of_classes id classes)
 
+-- what its object has: nothing where the class is regular
+abbrev pub of_object : {A : Type 0} → Class → List A → List A
+of_object class items = if class.is_regular then [] else items
+
 abbrev pub in_class : Class → BodyStart → Context → Context
 in_class class start context =
-    record context { members = class.members; state = parts_of context.declarations class.state; object = start.object; number = start.number }
+    record context {
+      members = of_object class class.members;
+      state = of_object class (parts_of context.declarations class.state);
+      object = start.object;
+      number = start.number;
+    }
 
 abbrev pub member_body : Context → BodyStart → Option (Class × Member) → Yield
 member_body context start None = main_yield (Ends end.Waits (store_with [] start.state start.input 0))
