@@ -3,7 +3,7 @@ use Rattle.std.proofs.Common.{◌≡◌, ◌<◌, ◌≤◌, ℕ, List, [], ◌�
 use Rattle.std.specs.List.{position_or_len}
 use Rattle.std.proofs.lemmas.Slice.Eq.{bytes_eq-Decides}
 use Rattle.mentat_io.specs.Shelf.{Files, has_name, file_named}
-use Rattle.mentat_io.specs.MemShelf.{with_file}
+use Rattle.mentat_io.specs.Memory.MemShelf.{with_file}
 
 set_first : (fs : Files) (name bytes : List ℕ) → position_or_len (has_name name) fs < length fs → set fs (position_or_len (has_name name) fs) (name, bytes) ≡ with_file fs name bytes
 set_first [] name bytes h = absurd (omega arith)

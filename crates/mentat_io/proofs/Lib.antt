@@ -1,4 +1,3 @@
 pub mod Files
 pub mod Plans
-pub mod Reading
-pub mod Writing
+pub mod Starts

@@ -2,7 +2,7 @@
 use Rattle.std.proofs.Common.{◌≡◌, ◌+◌, ◌≤◌, ◌≤ℤ◌, ℕ, ℤ, pos, negsuc, true, false, List, [], ◌∷◌, refl, arith, All}
 use Rattle.std.proofs.lemmas.Int.{ints}
 use Rattle.std.proofs.lemmas.List.Elements.{All-head}
-use Rattle.mentat_io.specs.Plan.{is_number, is_listed, is_past, none_to_come}
+use Rattle.mentat_io.specs.Memory.Plan.{is_number, is_listed, is_past, none_to_come}
 
 is_past-later : (z : ℤ) (n m : ℕ) → n ≤ m → is_past z n ≡ true → is_past z m ≡ true
 is_past-later (pos k) n m le h = grind arith

@@ -1,8 +1,7 @@
+-- What the traits say: a theorem over any shelf, source and sink rests on these three alone.
 pub mod Causes
-pub mod MemShelf
-pub mod MemSink
-pub mod MemSource
-pub mod Plan
 pub mod Shelf
-pub mod Sink
 pub mod Source
+-- What is said of the forms of the traits beside that.
+pub mod Memory
+pub mod System

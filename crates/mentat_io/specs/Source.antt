@@ -1,5 +1,5 @@
 -- What reading a piece says of the bytes that were left.
-use Rattle.std.specs.Prelude.{◌≡◌, ℕ, ◌≤◌, List, [], ◌++◌, Option, None, Some, length, take, IfSome}
+use Rattle.std.specs.Prelude.{◌≡◌, ℕ, ◌≤◌, List, [], Option, length, take, IfSome}
 
 -- the first n bytes of what was left stand at the front of buf
 abbrev pub GivesStart : List ℕ → ℕ → List ℕ → Type 0
@@ -8,9 +8,3 @@ GivesStart left n buf = (n ≤ length left) × (take n buf ≡ take n left)
 -- no byte is left, where that is told
 abbrev pub IsAtEnd : Option (List ℕ) → Type 0
 IsAtEnd left = IfSome left (λ xs. xs ≡ [])
-
--- over some calls these bytes were read: what was left is them and what is left now
-abbrev pub WasRead : Option (List ℕ) → Option (List ℕ) → List ℕ → Type 0
-WasRead None now bytes = now ≡ None
-WasRead (Some xs) None bytes = ⊥
-WasRead (Some xs) (Some ys) bytes = xs ≡ bytes ++ ys

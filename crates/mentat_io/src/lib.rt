@@ -13,9 +13,12 @@ mod sink;
 mod source;
 mod std_sink;
 mod std_source;
-#[cfg(test)]
-mod tests;
+mod sure_shelf;
+mod sure_sink;
+mod sure_source;
 mod text;
+mod uninterrupted;
+mod unread;
 
 pub use failed::{Failed, ShelfFault};
 pub use file_shelf::FileShelf;
@@ -27,4 +30,7 @@ pub use sink::Sink;
 pub use source::Source;
 pub use std_sink::StdSink;
 pub use std_source::StdSource;
+pub use sure_shelf::SureShelf;
+pub use sure_sink::SureSink;
+pub use sure_source::SureSource;
 pub use text::Text;

@@ -1,7 +1,7 @@
 ghost use Rattle.std.specs.Prelude.{◌≡◌, ◌≤◌, ◌↔◌, ◌≤ℤ◌, pos, ℕ, List, [], Some, All, length, position, IfOk, OnOk, OnErr, IsErrOf, IsTrue, option_copied, bytes_eq, if◌then◌else◌};
 ghost use Rattle.mentat_io.specs.Causes.{Rose};
 ghost use Rattle.mentat_io.specs.Shelf.{file_named, has_name, OnFailed, IsStartOf, ReadsSurely};
-ghost use Rattle.mentat_io.specs.MemShelf.{after_read, is_sure, refuses, with_file};
+ghost use Rattle.mentat_io.specs.Memory.MemShelf.{after_read, is_sure, refuses, with_file};
 
 use crate::failed::ShelfFault;
 use crate::plan::Plan;
@@ -11,7 +11,7 @@ use mpl_value::{Bytes, NoMemory, Words};
 use std::alloc::Global;
 use std::marker::Model;
 
-/// A shelf of given files.
+/// A shelf of given files, some of whose calls are to fail.
 #[derive(Debug, Drop)]
 pub struct MemShelf {
     files: Vec<(Text, Bytes)>,
@@ -19,7 +19,7 @@ pub struct MemShelf {
 }
 
 impl Model for MemShelf {
-    ghost use Rattle.mentat_io.specs.MemShelf.{ShelfState};
+    ghost use Rattle.mentat_io.specs.Memory.MemShelf.{ShelfState};
 
     ghost Value = { ShelfState };
 

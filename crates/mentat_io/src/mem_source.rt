@@ -1,33 +1,33 @@
 ghost use Rattle.std.specs.Prelude.{◌≡◌, ◌≤◌, ◌<◌, [], min, length, drop, Some, IfOk, OnErr, is_err};
 ghost use Rattle.mentat_io.specs.Causes.{Rose};
-ghost use Rattle.mentat_io.specs.Plan.{fails_next};
+ghost use Rattle.mentat_io.specs.Memory.Plan.{fails_next};
 ghost use Rattle.mentat_io.specs.Source.{GivesStart};
-ghost use Rattle.mentat_io.specs.MemSource.{after_read};
+ghost use Rattle.mentat_io.specs.Memory.MemSource.{after_read};
 
 use crate::failed::Failed;
 use crate::plan::Plan;
 use crate::source::Source;
+use crate::unread::Unread;
 use mpl_value::{Bytes, Words};
 use std::marker::Model;
 
-/// A source of given bytes.
+/// A source of given bytes, some of whose calls are to fail.
 #[derive(Debug, Drop)]
 pub struct MemSource {
-    bytes: Bytes,
-    at: usize,
+    unread: Unread,
     most: u32,
     plan: Plan,
 }
 
 impl Model for MemSource {
-    ghost use Rattle.std.specs.Prelude.{drop, length, ◌≤◌};
-    ghost use Rattle.mentat_io.specs.MemSource.{SourceState};
+    ghost use Rattle.std.specs.Prelude.{◌≤◌};
+    ghost use Rattle.mentat_io.specs.Memory.MemSource.{SourceState};
 
     ghost Value = { SourceState };
 
-    ghost view = { λ s. record { left = drop s.at s.bytes; most = s.most; plan = s.plan } };
+    ghost view = { λ s. record { left = s.unread; most = s.most; plan = s.plan } };
 
-    ghost invariant = { λ s. (s.at ≤ length s.bytes) × (1 ≤ s.most) };
+    ghost invariant = { λ s. 1 ≤ s.most };
 }
 
 impl MemSource {
@@ -38,8 +38,7 @@ impl MemSource {
         ensures { result ≡ record { left = left; most = most; plan = record { failing = failing; calls = 0; faults = 0 } } }
     {
         MemSource {
-            bytes: left,
-            at: 0,
+            unread: Unread::new(left),
             most,
             plan: Plan::new(failing),
         }
@@ -68,10 +67,6 @@ impl Source for MemSource {
             self.plan.fail();
             return Err(Failed);
         }
-        let rest = &self.bytes.as_slice()[self.at..];
-        let count = rest.len().min(buf.len()).min(self.most as usize);
-        buf[..count].copy_from_slice(&rest[..count]);
-        self.at += count;
-        Ok(count)
+        Ok(self.unread.give(buf, self.most as usize))
     }
 }

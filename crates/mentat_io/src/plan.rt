@@ -1,5 +1,6 @@
 ghost use Rattle.std.specs.Prelude.{◌≡◌, ◌≤◌, ◌+◌};
-ghost use Rattle.mentat_io.specs.Plan.{is_number, fails_next, one_more};
+ghost use Rattle.mentat_io.specs.Causes.{one_more};
+ghost use Rattle.mentat_io.specs.Memory.Plan.{is_number, fails_next};
 
 use mpl_value::Words;
 use std::marker::Model;
@@ -13,7 +14,7 @@ pub struct Plan {
 }
 
 impl Model for Plan {
-    ghost use Rattle.mentat_io.specs.Plan.{Plan as State};
+    ghost use Rattle.mentat_io.specs.Memory.Plan.{Plan as State};
 
     ghost Value = { State };
 

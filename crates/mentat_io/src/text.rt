@@ -22,6 +22,7 @@ impl Model for Text {
 }
 
 impl Text {
+    /// That text, copied.
     pub fn of(alloc: Global, text: &str) -> Result<Text, NoMemory>
         ensures { IfOk result (λ t. t ≡ text.now) }
     {
@@ -29,12 +30,14 @@ impl Text {
         Ok(Text { text })
     }
 
+    /// The text itself.
     pub fn as_str(&self) -> &str
         ensures { result.now ≡ self.now }
     {
         self.text.as_str()
     }
 
+    /// Its bytes, in UTF-8.
     pub fn as_bytes(&self) -> &[u8]
         ensures { result.now ≡ self.now }
     {

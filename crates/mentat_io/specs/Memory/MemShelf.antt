@@ -1,6 +1,6 @@
 -- A shelf in memory.
 use Rattle.std.specs.Prelude.{ℕ, Bool, ◌||◌, List, [], ◌∷◌, is_none, bytes_eq, if◌then◌else◌}
-use Rattle.mentat_io.specs.Plan.{Plan, fails_next, none_to_come, after_call}
+use Rattle.mentat_io.specs.Memory.Plan.{Plan, fails_next, none_to_come, after_call}
 use Rattle.mentat_io.specs.Shelf.{Files, file_named}
 
 -- its files, and which calls are to fail

@@ -1,6 +1,7 @@
 -- Which calls of an object in memory are to fail, and how many have failed.
-use Rattle.std.specs.Prelude.{ℕ, ◌+◌, ◌-◌, ◌^◌, min, Bool, true, false, nat_eq, nat_le, List, ℤ, pos, negsuc, if◌then◌else◌}
+use Rattle.std.specs.Prelude.{ℕ, ◌+◌, Bool, true, false, nat_eq, nat_le, List, ℤ, pos, negsuc, if◌then◌else◌}
 use Rattle.std.specs.List.{list_any, list_all}
+use Rattle.mentat_io.specs.Causes.{one_more}
 
 -- the numbers of the calls that are to fail, from 1; how many calls were made; how many failed
 pub record Plan : Type 0 where
@@ -27,10 +28,6 @@ none_to_come failing calls = list_all (λ z. is_past z calls) failing
 -- the next call is to fail
 abbrev pub fails_next : Plan → Bool
 fails_next p = is_listed p.failing (p.calls + 1)
-
--- one more, up to the last value of a counter
-abbrev pub one_more : ℕ → ℕ
-one_more n = min (n + 1) (2 ^ 64 - 1)
 
 -- a call was made, which failed or did not
 abbrev pub after_call : Bool → Plan → Plan

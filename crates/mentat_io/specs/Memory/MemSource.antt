@@ -1,6 +1,6 @@
 -- A source in memory.
 use Rattle.std.specs.Prelude.{ℕ, List, true, false, drop, Ok, Err, Result}
-use Rattle.mentat_io.specs.Plan.{Plan, after_call}
+use Rattle.mentat_io.specs.Memory.Plan.{Plan, after_call}
 
 -- the bytes that are left, how many a call gives at most, and which calls are to fail
 pub record SourceState : Type 0 where
