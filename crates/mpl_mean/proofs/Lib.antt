@@ -10,4 +10,5 @@ pub mod SmallPrograms
 mod Allowance
 mod InPlace
 pub mod Truth
+pub mod Lists
 mod NeverWaits

@@ -81,7 +81,7 @@ module _ {X : Type 0} (name : X → List ℕ) (part : X → Bool) (most : ℕ) w
   kept_is : (xs : List X) (before : ℕ) (earlier : List (List ℕ)) → before ≤ most → kept before earlier xs ≡ fitting before earlier xs
   kept_is [] before earlier h = still_most before most h ∙ sym (and_true_right (nat_le (before + 0) most))
   kept_is (x ∷ xs) before earlier h =
-      kept_step before earlier x xs h (before == most) refl (λ callees. kept_is xs (before + 1) (earlier ++ name x ∷ []) callees)
+      kept_step before earlier x xs h (before == most) refl (λ within. kept_is xs (before + 1) (earlier ++ name x ∷ []) within)
 
 from_none : (n : ℕ) → 0 + n ≡ n
 from_none n = omega arith

@@ -15,7 +15,7 @@ use Rattle.mpl_mean.specs.Meaning.Store as mean
 use Rattle.mpl_walk.specs.declared.held.Held.{Held}
 use Rattle.mpl_walk.specs.declared.held.Held.TheVariants as held
 use Rattle.mpl_walk.specs.declared.held.Variable.{Variable}
-use Rattle.mpl_walk.specs.Held.{IsWhole, Whole, arg_held, value_held, variable_held, variables_held, words_held}
+use Rattle.mpl_walk.specs.Internal.Held.{IsWhole, Whole, arg_held, value_held, variable_held, variables_held, words_held}
 
 abbrev local : List ℕ → TypeName → Held → mean.Variable
 local name type holds = record { name = name; type = type; dimension = None; holds = arg_held holds }

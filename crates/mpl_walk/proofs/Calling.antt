@@ -27,10 +27,10 @@ use Rattle.mpl_mean.specs.Meaning.Store.{Store, Outcome, Goes, Ends, Step, all_o
 use Rattle.mpl_walk.specs.declared.held.Held.{Held}
 use Rattle.mpl_walk.specs.declared.held.Held.TheVariants as held
 use Rattle.mpl_walk.specs.declared.held.Variable.{Variable}
-use Rattle.mpl_walk.specs.Evaluated.{passed, result_held}
-use Rattle.mpl_walk.specs.Found.{IsClassOf}
-use Rattle.mpl_walk.specs.Held.{Stands, arg_held, variable_held, variables_held, words_held}
-use Rattle.mpl_walk.specs.Runs.{with_turns}
+use Rattle.mpl_walk.specs.Internal.Evaluated.{passed, result_held}
+use Rattle.mpl_walk.specs.Internal.Found.{IsClassOf}
+use Rattle.mpl_walk.specs.Internal.Held.{Stands, arg_held, variable_held, variables_held, words_held}
+use Rattle.mpl_walk.specs.Internal.Runs.{with_turns}
 
 -- ---- receivers
 
@@ -116,7 +116,7 @@ call_fires c m arguments hs s t goes spends found =
 
 -- ---- bodies
 
-at_end : (type : ResultType) (line : ℕ) (known : Known) → result_at_end type line (result.Known known) ≡ result.Known known
+pub at_end : (type : ResultType) (line : ℕ) (known : Known) → result_at_end type line (result.Known known) ≡ result.Known known
 at_end (Void at) line known = refl
 at_end (Typed at type) line known = refl
 
@@ -127,7 +127,7 @@ ended m store outcome = back_with (store_of outcome).turns (member_end m outcome
 abbrev pub inside : List Variable → ℕ → Store
 inside vs turns = store_with (variables_held vs) [] [] turns
 
-rtf_does : (at : At) (flow : Flow) (c : Context) (s : Store) → does (Rtf at flow) c s ≡ and_then (passes flow c s) (gives_result at.line)
+pub rtf_does : (at : At) (flow : Flow) (c : Context) (s : Store) → does (Rtf at flow) c s ≡ and_then (passes flow c s) (gives_result at.line)
 rtf_does at flow c s = search (rules, the_lemmas)
 
 ended_with : (m : Member) (line : ℕ) (vs : List Variable) (turns : ℕ) (store : Store) (r : Result Held Trap)

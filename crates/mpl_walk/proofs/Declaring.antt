@@ -14,7 +14,7 @@ use Rattle.mpl_ast.specs.declared.statement.Dimension.{Dimension}
 use Rattle.mpl_ast.specs.declared.statement.TypeName.{TypeName}
 use Rattle.mpl_mean.specs.FirstForms.FirstForm.{is_first_declarator, is_first_local}
 use Rattle.mpl_mean.specs.Meaning.Layout.{class_named, classes_of, struct_named, words_of, words_of_class, words_of_named}
-use Rattle.mpl_walk.specs.Found.{is_part, IsClassOf}
+use Rattle.mpl_walk.specs.Internal.Found.{is_part, IsClassOf}
 
 no_structs : (name : List ℕ) (ds : List Declaration) → list_all is_part ds ≡ true → struct_named name ds ≡ None
 no_structs name [] parts = refl

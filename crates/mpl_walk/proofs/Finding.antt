@@ -18,13 +18,13 @@ use Rattle.mpl_mean.specs.FirstForms.FirstForm as first
 use Rattle.mpl_mean.specs.FirstForms.FirstForm.{are_ints, is_first_item, is_int_result, is_one_result}
 use Rattle.mpl_mean.specs.Meaning.Layout as mean
 use Rattle.mpl_mean.specs.Meaning.Layout.{Class, class_named, classes_from, formals_of, is_regular, member_named, members_from, state_of}
-use Rattle.mpl_walk.specs.Found.{is_int_formal, is_part, SkipsClass, SkipsMember, TakesClass}
+use Rattle.mpl_walk.specs.Internal.Found.{is_int_formal, is_part, SkipsClass, SkipsMember, TakesClass}
 
 both_regular : (kind : Kind) → first.is_regular kind ≡ true → is_regular kind ≡ true
 both_regular (Regular at) h = refl
 both_regular (Persistent at) h = cc
 
-abbrev class_made : ℕ → ℕ → Kind → Name → List Item → Class
+abbrev pub class_made : ℕ → ℕ → Kind → Name → List Item → Class
 class_made number id kind class items =
     record { number = number; name = class.text; is_regular = is_regular kind; state = state_of items; members = members_from id items }
 
@@ -68,10 +68,10 @@ member_parts at result member formals body built =
     let inner = and_parts (is_int_result result) (are_ints formals) outer.0 in
     (ints_of formals inner.1, outer.1)
 
-pub member_environment : (name : List ℕ) (id : ℕ) (at : At) (result : ResultType) (member : Name) (formals : Option Formals) (body : Block) (others : List Item)
+pub member_there : (name : List ℕ) (id : ℕ) (at : At) (result : ResultType) (member : Name) (formals : Option Formals) (body : Block) (others : List Item)
     → bytes_eq member.text name ≡ true
     → member_named name (members_from id (item.Member at result member formals body ∷ others)) ≡ Some (member_made id result member formals body)
-member_environment name id at result member formals body others same =
+member_there name id at result member formals body others same =
     ap (λ b. cond b (Some (member_made id result member formals body)) (member_named name (members_from (id + 1) others))) same
 
 pub skips_member : (name : List ℕ) (at : At) (result : ResultType) (member : Name) (formals : Option Formals) (body : Block)

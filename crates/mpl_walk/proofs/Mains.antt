@@ -17,7 +17,7 @@ use Rattle.mpl_ast.specs.declared.statement.TypeName.{TypeName}
 use Rattle.mpl_mean.specs.Meaning.BodyMeaning.{main_statements, statements_of}
 use Rattle.mpl_mean.specs.FirstForms.FirstForm.{are_first, is_first_statement, is_class, is_int, is_without_formals}
 use Rattle.mpl_mean.specs.Meaning.Layout.{Function, formals_of}
-use Rattle.mpl_walk.specs.Found.{is_part}
+use Rattle.mpl_walk.specs.Internal.Found.{is_part}
 
 -- a function stands last, and is `main`
 pub is_last : (at : At) (result : TypeName) (function : Name) (formals : Option Formals) (body : Block) (others : List Declaration)

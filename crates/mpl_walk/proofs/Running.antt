@@ -12,7 +12,7 @@ use Rattle.mpl_ast.specs.declared.statement.Statement as statement
 use Rattle.mpl_value.specs.declared.body.BodyStart.{BodyStart}
 use Rattle.mpl_value.specs.declared.body.MemberId.{MemberId}
 use Rattle.mpl_value.specs.declared.known.Known.{Known}
-use Rattle.mpl_mean.specs.Meaning.BodyMeaning.{callees_at, body_of, context_with, main_statements, main_yield, run, store_with, yield_of}
+use Rattle.mpl_mean.specs.Meaning.BodyMeaning.{callees_at, body_of, context_with, main_statements, main_yield, run, yield_of}
 use Rattle.mpl_mean.specs.Meaning.Context.{Context}
 use Rattle.mpl_mean.specs.Meaning.StatementMeaning.{declares_all, does, line_of, values_of}
 use Rattle.mpl_mean.specs.Meaning.Store.{Store, Outcome, Goes, Step, and_then, declare, pure, in_turn, printed}
@@ -22,8 +22,8 @@ use Rattle.mpl_walk.specs.declared.held.Variable.{Variable}
 use Rattle.mpl_walk.specs.declared.setting.Progress.{Progress}
 use Rattle.mpl_walk.specs.declared.stop.Stop.{Stop}
 use Rattle.mpl_walk.specs.declared.stop.Stop.TheVariants as stop
-use Rattle.mpl_walk.specs.Held.{Stands, Whole, variable_held, variables_held}
-use Rattle.mpl_walk.specs.Runs.{Comes, Fits, prints, stopped, store_at}
+use Rattle.mpl_walk.specs.Internal.Held.{Stands, Whole, variable_held, variables_held}
+use Rattle.mpl_walk.specs.Internal.Runs.{Comes, Fits, main_store, prints, stopped, store_at}
 
 -- the context of `main`
 abbrev pub main_context : List Declaration → ℕ → FinMap nat_cmp Known → ℕ → Context
@@ -91,10 +91,6 @@ turn_stopped c xs i x budget why s t next stops =
     ap (λ rest. in_turn (map (λ one. does one c) rest) s) next ∙ still_stopped budget why t (does x c s) (λ _. in_turn (map (λ one. does one c) (drop (i + 1) xs))) stops
 
 -- ---- the yield
-
--- the store of `main` at its start
-abbrev pub main_store : BodyStart → Store
-main_store start = store_with [] start.state start.input 0
 
 pub yield_is : (p : Program) (start : BodyStart) (replies : FinMap nat_cmp Known) (budget : ℕ) → start.member ≡ None
     → yield_of p start replies budget ≡ main_yield (run (main_context p.declarations budget replies start.number) (main_statements p.declarations) (main_store start))

@@ -11,8 +11,8 @@ use Rattle.mpl_mean.specs.Meaning.Store.{Store, and_then, computed, pure}
 use Rattle.mpl_mean.specs.Meaning.Values.{first_word, int_value, word_of}
 use Rattle.mpl_value.specs.declared.known.TrapKind.{TrapKind}
 use Rattle.mpl_mean.specs.FirstForms.ExpressionLevels.{term_value, unary_value}
-use Rattle.mpl_walk.specs.Evaluated.{evaluated, on_line}
-use Rattle.mpl_walk.specs.Held.{words_held}
+use Rattle.mpl_walk.specs.Internal.Evaluated.{evaluated, on_line}
+use Rattle.mpl_walk.specs.Internal.Held.{words_held}
 
 computed_value : (line : ℕ) (outcome : Result ℤ TrapKind) (s : Store)
     → and_then (computed line outcome s) (λ z. pure (int_value z)) ≡ evaluated (on_line line outcome) s

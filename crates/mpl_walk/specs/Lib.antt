@@ -1,4 +1,1 @@
-pub mod Evaluated
-pub mod Found
-pub mod Held
-pub mod Runs
+pub mod Internal

@@ -1,71 +1,99 @@
-ghost use Rattle.std.specs.Prelude.{◌≡◌, ◌≤◌, ◌<◌, true, None, map, IfOk, OnOk};
+ghost use Rattle.std.specs.Prelude.{◌≡◌, ◌≤◌, ◌+◌, true, None, map, IfOk, OnOk};
 ghost use Rattle.std.specs.List.{list_all};
 ghost use Rattle.mpl_mean.specs.FirstForms.FirstForm.{is_first_form, is_first_declarator, is_first_expression, is_first_local, is_first_statement, is_call, is_int, is_named};
+ghost use Rattle.mpl_mean.specs.Laws.Sizes.{StartFits};
+ghost use Rattle.mpl_mean.specs.Limits.{greatest_budget};
 ghost use Rattle.mpl_mean.specs.Meaning.CallMeaning.{passes};
 ghost use Rattle.mpl_mean.specs.Meaning.Layout.{words_of};
 ghost use Rattle.mpl_mean.specs.Meaning.PlaceMeaning.{is_bool};
 ghost use Rattle.mpl_ast.specs.declared.flow.Flow.{out-Flow};
 ghost use Rattle.mpl_value.specs.declared.body.Arg.TheVariants.{Know};
+ghost use Rattle.mpl_value.specs.declared.body.BodyEnd.TheVariants as ends;
 ghost use Rattle.mpl_mean.specs.Meaning.BodyMeaning.{main_yield, run, yield_of, yield_with};
 ghost use Rattle.mpl_mean.specs.Meaning.Context.{Context};
 ghost use Rattle.mpl_mean.specs.Meaning.StatementMeaning.{declares, declares_all, does};
 ghost use Rattle.mpl_value.specs.Words.{zeros};
 ghost use Rattle.mpl_mean.specs.Meaning.Store.{Outcome, Store, declare, in_turn};
 ghost use Rattle.mpl_value.specs.Words.{words_at};
-ghost use Rattle.mpl_walk.specs.Found.{is_part};
-ghost use Rattle.mpl_walk.specs.Held.{Whole, arg_held, value_held, words_held};
-ghost use Rattle.mpl_walk.specs.Runs.{Comes, Fits, declares_result, local_of, prints, store_at, with_turns};
+ghost use Rattle.mpl_walk.specs.Internal.Found.{is_part};
+ghost use Rattle.mpl_walk.specs.Internal.Held.{Whole, arg_held, value_held, words_held};
+ghost use Rattle.mpl_walk.specs.Internal.Runs.{Comes, Fits, declares_result, local_of, main_store, prints, store_at, with_turns};
 
 use crate::call::call;
 use crate::evaluate::values;
 use crate::held::{Held, Variable};
 use crate::lookup::{class_items, main_statements};
+use crate::member::{member_numbered, walk_member};
 use crate::print::print_line;
 use crate::setting::{Progress, Setting, spend};
 use crate::stop::Stop;
 use mpl_ast::Name;
 use mpl_ast::expression::Expression;
 use mpl_ast::flow::Flow;
-use mpl_ast::program::{Declaration, Program};
+use mpl_ast::program::Declaration;
 use mpl_ast::statement::{Declarator, Local, Statement, TypeName};
+use mpl_mean::Typed;
 use mpl_value::{BodyEnd, BodyResult, BodyStart, Bytes, Calls, NoMemory, Replies, Words, Yield};
 use std::alloc::Global;
 
-/// What `main` does from a start, under these replies to its calls, with a budget of turns.
+/// What a body does from a start, under these replies to its calls, with a budget of turns.
 pub fn walk(
     alloc: Global,
-    program: &Program,
+    typed: &Typed,
     start: &BodyStart,
     replies: &Replies,
     budget: u64,
 ) -> Result<Yield, NoMemory>
-    requires built { is_first_form program.now ≡ true }
-    requires main { start.now.member ≡ None }
-    requires budget { budget ≤ 4000000 }
-    ensures meaning { IfOk result (λ y. y ≡ yield_of program.now start.now replies.now budget) }
+    requires built { is_first_form typed.now ≡ true }
+    requires fits { StartFits typed.now start.now }
+    requires budget { budget ≤ greatest_budget }
+    ensures meaning { IfOk result (λ y. y ≡ yield_of typed.now start.now replies.now budget) }
+    ensures spent { IfOk result (λ y. y.end ≡ ends.Spent → y.turns ≡ budget + 1) }
 {
+    let program = typed.program();
     let statements = main_statements(program);
     let setting = Setting {
         alloc,
         declarations: program.declarations.as_slice(),
         budget,
     };
+    match start.member {
+        None => walk_main(&setting, start, statements),
+        Some(id) => match member_numbered(setting.declarations, id) {
+            Some(member) => walk_member(&setting, start, member),
+            None => unreachable!(),
+        },
+    }
+}
+
+/// What `main` does from a start.
+fn walk_main(
+    setting: &Setting,
+    start: &BodyStart,
+    statements: &[Statement],
+) -> Result<Yield, NoMemory>
+    requires built { list_all is_first_statement statements.now ≡ true }
+    requires parts { list_all is_part setting.now.declarations.now ≡ true }
+    requires budget { setting.now.budget ≤ greatest_budget }
+    ensures meaning { (c : Context) → Fits setting.now.declarations.now setting.now.budget c → IfOk result (λ y. y ≡ main_yield (run c statements.now (main_store start.now))) }
+    ensures spent { IfOk result (λ y. y.end ≡ ends.Spent → y.turns ≡ setting.now.budget + 1) }
+{
     let mut progress = Progress {
-        variables: Vec::new(alloc),
-        lines: Bytes::new(alloc),
+        variables: Vec::new(setting.alloc),
+        lines: Bytes::new(setting.alloc),
         turns: 0,
     };
-    let ran = run_main(&setting, statements, &mut progress);
+    let ran = run_main(setting, statements, &mut progress);
     let Progress {
         variables: _,
         lines,
         turns,
     } = progress;
-    let (end, turns) = ended(ran, turns, budget)?;
+    let (end, turns) = ended(ran, turns, setting.budget)?;
     Ok(Yield {
         lines,
-        calls: Calls::new(alloc),
-        creations: Words::new(alloc),
+        calls: Calls::new(setting.alloc),
+        creations: Words::new(setting.alloc),
         result: BodyResult::Open,
         state: start.state.copy()?,
         turns,
@@ -75,8 +103,9 @@ pub fn walk(
 
 /// How the body ended, and after how many turns.
 fn ended(ran: Result<(), Stop>, turns: u64, budget: u64) -> Result<(BodyEnd, u64), NoMemory>
-    requires { budget ≤ 4000000 }
-    ensures { (o : Outcome (Unit {0})) (s : Store) → Comes budget (λ _. tt) o (with_turns s turns) ran → IfOk result (λ e. main_yield o ≡ yield_with e.0 s.result (with_turns s e.1)) }
+    requires { budget ≤ greatest_budget }
+    ensures yields { (o : Outcome (Unit {0})) (s : Store) → Comes budget (λ _. tt) o (with_turns s turns) ran → IfOk result (λ e. main_yield o ≡ yield_with e.0 s.result (with_turns s e.1)) }
+    ensures spent { IfOk result (λ e. e.0 ≡ ends.Spent → e.1 ≡ budget + 1) }
 {
     match ran {
         Ok(()) => Ok((BodyEnd::Done, turns)),

@@ -12,10 +12,10 @@ ghost use Rattle.mpl_mean.specs.Meaning.PlaceMeaning.{location_of_name};
 ghost use Rattle.mpl_mean.specs.Meaning.Store.{Store, Step, variable_named, waits};
 ghost use Rattle.mpl_value.specs.declared.body.Arg.{Arg};
 ghost use Rattle.mpl_ast.specs.declared.program.Declaration.{Declaration};
-ghost use Rattle.mpl_walk.specs.Evaluated.{result_held};
-ghost use Rattle.mpl_walk.specs.Found.{is_int_formal, is_part, IsMember};
-ghost use Rattle.mpl_walk.specs.Held.{Stands, Whole, arg_held, variables_held};
-ghost use Rattle.mpl_walk.specs.Runs.{Comes, Fits, with_turns};
+ghost use Rattle.mpl_walk.specs.Internal.Evaluated.{result_held};
+ghost use Rattle.mpl_walk.specs.Internal.Found.{is_int_formal, is_part, IsMember};
+ghost use Rattle.mpl_walk.specs.Internal.Held.{Stands, Whole, arg_held, variables_held};
+ghost use Rattle.mpl_walk.specs.Internal.Runs.{Comes, Fits, with_turns};
 
 use crate::held::{Held, Variable, find};
 use crate::lookup::{Member, class_items, member_of};
@@ -146,7 +146,7 @@ fn fire(
 }
 
 /// The operand of the member's one statement.
-fn operand(body: &Block) -> &Flow
+pub fn operand(body: &Block) -> &Flow
     requires { is_one_result body.now.statements ≡ true }
     ensures built { is_first_flow result.now ≡ true }
     ensures is { (at : At) × (body.now.statements ≡ Rtf at result.now ∷ []) }
@@ -187,7 +187,7 @@ fn result_of(passed: Result<Held, Trap>) -> Held
 }
 
 /// The formals, and what they hold.
-fn bound<'a>(
+pub fn bound<'a>(
     alloc: Global,
     formals: &'a [Formal],
     arguments: &[Held],

@@ -7,9 +7,9 @@ ghost use Rattle.mpl_mean.specs.Meaning.PlaceMeaning.{location_of_name, words_of
 ghost use Rattle.mpl_mean.specs.Meaning.StatementMeaning.{values_of};
 ghost use Rattle.mpl_mean.specs.Meaning.Store.{Store, variable_named};
 ghost use Rattle.mpl_mean.specs.FirstForms.ExpressionLevels.{conjunction_value, equality_value, relation_value, sum_value, term_value, unary_value, primary_value, place_value};
-ghost use Rattle.mpl_walk.specs.Evaluated.{evaluated, on_line};
-ghost use Rattle.mpl_walk.specs.Held.{Stands, value_held};
-ghost use Rattle.mpl_walk.specs.Runs.{Comes};
+ghost use Rattle.mpl_walk.specs.Internal.Evaluated.{evaluated, on_line};
+ghost use Rattle.mpl_walk.specs.Internal.Held.{Stands, value_held};
+ghost use Rattle.mpl_walk.specs.Internal.Runs.{Comes};
 
 use crate::held::{Variable, find, force, number};
 use crate::stop::Stop;

@@ -2,7 +2,7 @@ ghost use Rattle.std.specs.Prelude.{◌≡◌, List, Some, None, MatchOption, If
 ghost use Rattle.std.specs.Str.{bytes_eq};
 ghost use Rattle.mpl_ast.specs.declared.program.Declaration.{Declaration};
 ghost use Rattle.mpl_mean.specs.Meaning.Store.{variable_named};
-ghost use Rattle.mpl_walk.specs.Held.{forced, variable_held, variables_held, words_held, IsWhole, Whole};
+ghost use Rattle.mpl_walk.specs.Internal.Held.{forced, variable_held, variables_held, words_held, IsWhole, Whole};
 ghost use Rattle.mpl_mean.specs.Meaning.Values.{first_word};
 
 use mpl_ast::statement::TypeName;

@@ -6,12 +6,11 @@ mod call;
 mod evaluate;
 mod held;
 mod lookup;
+mod member;
 mod name;
 mod pass;
 mod print;
 mod setting;
 mod stop;
-#[cfg(test)]
-mod tests;
 
 pub use body::walk;

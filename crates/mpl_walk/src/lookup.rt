@@ -4,7 +4,7 @@ ghost use Rattle.mpl_mean.specs.FirstForms.FirstForm.{is_first_form, is_first_it
 ghost use Rattle.mpl_mean.specs.Meaning.BodyMeaning.{main_statements};
 ghost use Rattle.mpl_mean.specs.Meaning.Layout as mean;
 ghost use Rattle.mpl_mean.specs.Meaning.Layout.{class_named, classes_from, formals_of, member_named, members_from};
-ghost use Rattle.mpl_walk.specs.Found.{is_part, IsClassOf, IsMember, SkipsClass, SkipsMember, TakesClass, TakesMember};
+ghost use Rattle.mpl_walk.specs.Internal.Found.{is_part, IsClassOf, IsMember, SkipsClass, SkipsMember, TakesClass, TakesMember};
 
 use crate::held::is_same;
 use mpl_ast::class::{Formal, Formals, Item};
@@ -84,7 +84,7 @@ fn member_if_named<'a>(item: &'a Item, name: &[u8]) -> Option<Member<'a>>
     }
 }
 
-fn formals_of(formals: &Option<Formals>) -> &[Formal]
+pub fn formals_of(formals: &Option<Formals>) -> &[Formal]
     ensures { result.now ≡ formals_of formals.now }
 {
     match formals {

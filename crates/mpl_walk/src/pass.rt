@@ -4,9 +4,9 @@ ghost use Rattle.mpl_mean.specs.FirstForms.FirstForm.{is_first_expression, is_fi
 ghost use Rattle.mpl_mean.specs.Meaning.CallMeaning.{pass, passes, whole_name, whole_variable};
 ghost use Rattle.mpl_mean.specs.Meaning.Context.{Context};
 ghost use Rattle.mpl_mean.specs.Meaning.Store.{Store, all_of};
-ghost use Rattle.mpl_walk.specs.Held.{Stands, arg_held, variable_held, variables_held};
-ghost use Rattle.mpl_walk.specs.Evaluated.{passed};
-ghost use Rattle.mpl_walk.specs.Runs.{Comes};
+ghost use Rattle.mpl_walk.specs.Internal.Held.{Stands, arg_held, variable_held, variables_held};
+ghost use Rattle.mpl_walk.specs.Internal.Evaluated.{passed};
+ghost use Rattle.mpl_walk.specs.Internal.Runs.{Comes};
 
 use crate::evaluate::expression_value;
 use crate::held::{Held, Variable, find};

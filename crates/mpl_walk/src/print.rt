@@ -2,7 +2,7 @@ ghost use Rattle.std.specs.Prelude.{◌≡◌, ◌++◌, map, OnOk};
 ghost use Rattle.std.specs.Fmt.{signed_decimal};
 ghost use Rattle.mpl_mean.specs.Meaning.StatementMeaning.{line_of};
 ghost use Rattle.mpl_mean.specs.Meaning.Values.{value_text};
-ghost use Rattle.mpl_walk.specs.Held.{value_held};
+ghost use Rattle.mpl_walk.specs.Internal.Held.{value_held};
 
 use crate::held::number;
 use mpl_value::{Bytes, NoMemory};

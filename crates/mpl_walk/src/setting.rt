@@ -1,6 +1,6 @@
 ghost use Rattle.std.specs.Prelude.{◌≡◌, ◌≤◌, ◌+◌, OnOk};
 ghost use Rattle.mpl_mean.specs.Meaning.Store.{Store, spend};
-ghost use Rattle.mpl_walk.specs.Runs.{Comes, with_turns};
+ghost use Rattle.mpl_walk.specs.Internal.Runs.{Comes, with_turns};
 
 use crate::held::Variable;
 use crate::stop::Stop;

@@ -1,9 +1,10 @@
-use Rattle.std.proofs.Common.{◌≡◌, true, false, [], List, Ok, ℕ, ap, sym, subst, true≢false, ◌∙◌, nat_cmp}
+use Rattle.std.proofs.Common.{◌≡◌, true, false, [], List, Ok, ℕ, arith, refl, ap, sym, subst, true≢false, ◌∙◌, nat_cmp}
 use Rattle.std.specs.FinMap.{FinMap, empty}
 use Rattle.mpl_ast.specs.declared.program.Program.{Program}
 use Rattle.mpl_ast.specs.declared.token.Token.{Token}
 use Rattle.mpl_mean.specs.Accepted.{IsAccepted}
 use Rattle.mpl_mean.specs.FirstForms.FirstForm.{is_first_form}
+use Rattle.mpl_mean.specs.Laws.Sizes.{StartFits}
 use Rattle.mpl_mean.specs.Meaning.BodyMeaning.{yield_of}
 use Rattle.mpl_mean.specs.Meaning.DirectRun.{direct_run, main_start}
 use Rattle.mpl_mean.specs.Text.Lexemes.{tokens_of}
@@ -35,6 +36,13 @@ pub returns-then-not-branch : goal.returns-then-not-branch
 returns-then-not-branch c =
     ill_typed c.args.source.now c.in-Ok-parse.program c.in-Ok.tokens.list c.tokens_have_one_tree.ensures
     c.in-Ok.ensures.tokens.0 c.in-Ok-parse.ensures.built c.in-Ok-parse.ensures.text (sym c.in_ok-is_typed.ensures ∙ c.if-not-branch.true)
+
+-- the start of `main` fits any program
+main_fits : (p : Program) → StartFits p (main_start [])
+main_fits p = record { number = omega arith; words = (refl, refl) }
+
+pub walk-requires-clause-fits : goal.walk-requires-clause-fits
+walk-requires-clause-fits c = subst (λ (start : BodyStart). StartFits c.of-typed.result start) (sym c.start_of_main-start.ensures) (main_fits c.of-typed.result)
 
 pub returns-in-Ok-walk-clause-ran : goal.returns-in-Ok-walk-clause-ran
 returns-in-Ok-walk-clause-ran c =

@@ -5,7 +5,7 @@ use Rattle.mpl_types.specs.Internal.Bodies.{declares_number}
 use Rattle.mpl_types.proofs.Lists.{all_counted, no_more, one_more}
 use Rattle.mpl_types.proofs.bodies.numbers.Goals as goal
 use Rattle.mpl_types.proofs.bodies.numbers.Goals.{then-declares_number, else-declares_number}
-use Rattle.mpl_walk.proofs.Lists.{next_left, none_left}
+use Rattle.mpl_mean.proofs.Lists.{next_left, none_left}
 
 pub loop-statement-preserved : goal.loop-statement-preserved
 loop-statement-preserved c =

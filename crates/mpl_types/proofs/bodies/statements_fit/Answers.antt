@@ -4,7 +4,7 @@ use Rattle.mpl_types.specs.Internal.Scope.{Scope}
 use Rattle.mpl_types.specs.Internal.Variables.{seen}
 use Rattle.mpl_types.proofs.BodyLemmas.{statement_failed, statement_passed}
 use Rattle.mpl_types.proofs.bodies.statements_fit.Goals as goal
-use Rattle.mpl_walk.proofs.Lists.{next_left, none_left}
+use Rattle.mpl_mean.proofs.Lists.{next_left, none_left}
 
 pub loop-statement-init : goal.loop-statement-init
 loop-statement-init c = ap (λ (scope : Scope). statements_fit c.args.declarations.now (Some scope) c.args.statements.now) c.new-variables.ensures

@@ -1,7 +1,7 @@
 use Rattle.std.proofs.Common.{◌+◌, arith, drop, sym, ap, ◌∙◌}
 use Rattle.mpl_types.specs.Internal.Bodies.{member_formals}
 use Rattle.mpl_types.proofs.lookup.member_formals.Goals as goal
-use Rattle.mpl_walk.proofs.Lists.{next_left, none_left}
+use Rattle.mpl_mean.proofs.Lists.{next_left, none_left}
 
 pub returns-in-Some : goal.returns-in-Some
 returns-in-Some c =

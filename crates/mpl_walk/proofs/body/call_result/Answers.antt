@@ -2,8 +2,8 @@ use Rattle.std.proofs.Common.{sym, ap, subst, ◌∙◌}
 use Rattle.mpl_value.specs.declared.body.Arg.{Arg}
 use Rattle.mpl_mean.specs.Meaning.CallMeaning.{call_value, passes}
 use Rattle.mpl_mean.specs.Meaning.Store.{Step}
-use Rattle.mpl_walk.specs.Held.{Stands, arg_held}
-use Rattle.mpl_walk.specs.Runs.{Comes, store_at, with_turns}
+use Rattle.mpl_walk.specs.Internal.Held.{Stands, arg_held}
+use Rattle.mpl_walk.specs.Internal.Runs.{Comes, store_at, with_turns}
 use Rattle.mpl_walk.proofs.Passing.{flow_of_call}
 use Rattle.mpl_walk.proofs.Running.{stands_at}
 use Rattle.mpl_walk.proofs.body.call_result.Goals as goal

@@ -3,7 +3,7 @@ use Rattle.mpl_ast.specs.declared.statement.Declarator.{Declarator}
 use Rattle.mpl_mean.specs.FirstForms.FirstForm.{is_first_local}
 use Rattle.mpl_mean.specs.Meaning.StatementMeaning.{declares}
 use Rattle.mpl_mean.specs.Meaning.Store.{in_turn}
-use Rattle.mpl_walk.specs.Runs.{Comes, store_at}
+use Rattle.mpl_walk.specs.Internal.Runs.{Comes, store_at}
 use Rattle.mpl_walk.proofs.Declaring.{one_declarator}
 use Rattle.mpl_walk.proofs.Running.{then_nothing}
 use Rattle.mpl_walk.proofs.body.declare.Goals as goal

@@ -2,7 +2,7 @@ use Rattle.std.proofs.Common.{sym, ap, subst, ◌∙◌}
 use Rattle.mpl_ast.specs.declared.statement.Declarator.TheVariants.{Plain}
 use Rattle.mpl_mean.specs.FirstForms.FirstForm.{is_first_declarator}
 use Rattle.mpl_mean.specs.Meaning.StatementMeaning.{declares}
-use Rattle.mpl_walk.specs.Runs.{Comes, store_at}
+use Rattle.mpl_walk.specs.Internal.Runs.{Comes, store_at}
 use Rattle.mpl_walk.proofs.Declaring.{without_dimension}
 use Rattle.mpl_walk.proofs.body.declare_one.Goals as goal
 

@@ -3,8 +3,8 @@ use Rattle.mpl_ast.specs.declared.program.Declaration.{Declaration}
 use Rattle.mpl_value.specs.declared.body.Arg.TheVariants.{Know}
 use Rattle.mpl_mean.specs.Meaning.Layout.{words_of}
 use Rattle.mpl_value.specs.Words.{zeros}
-use Rattle.mpl_walk.specs.Held.{words_held}
-use Rattle.mpl_walk.specs.Runs.{local_of}
+use Rattle.mpl_walk.specs.Internal.Held.{words_held}
+use Rattle.mpl_walk.specs.Internal.Runs.{local_of}
 use Rattle.mpl_walk.proofs.Binding.{known_front}
 use Rattle.mpl_walk.proofs.Running.{declared}
 use Rattle.mpl_walk.proofs.body.declare_plain.Goals as goal

@@ -1,10 +1,10 @@
 use Rattle.std.proofs.Common.{sym, ap, subst, ◌∙◌}
 use Rattle.mpl_mean.specs.Meaning.CallMeaning.{passes}
 use Rattle.mpl_mean.specs.Meaning.Store.{and_then, declare}
-use Rattle.mpl_walk.specs.Held.{Whole, arg_held}
-use Rattle.mpl_walk.specs.Runs.{declares_result, local_of, store_at}
+use Rattle.mpl_walk.specs.Internal.Held.{Whole, arg_held}
+use Rattle.mpl_walk.specs.Internal.Runs.{declares_result, local_of, store_at}
 use Rattle.mpl_walk.proofs.Binding.{int_front}
-use Rattle.mpl_walk.proofs.Coming.{comes_stopped}
+use Rattle.mpl_walk.proofs.StepResults.{comes_stopped}
 use Rattle.mpl_walk.proofs.Running.{declared, still_stopped}
 use Rattle.mpl_walk.proofs.body.declare_result.Goals as goal
 

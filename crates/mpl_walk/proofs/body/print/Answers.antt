@@ -1,9 +1,9 @@
 use Rattle.std.proofs.Common.{◌++◌, map, sym, ap, subst, ◌∙◌}
 use Rattle.mpl_mean.specs.Meaning.StatementMeaning.{line_of, values_of}
 use Rattle.mpl_mean.specs.Meaning.Store.{printed}
-use Rattle.mpl_walk.specs.Held.{Stands, value_held}
-use Rattle.mpl_walk.specs.Runs.{prints, store_at}
-use Rattle.mpl_walk.proofs.Coming.{comes_stopped}
+use Rattle.mpl_walk.specs.Internal.Held.{Stands, value_held}
+use Rattle.mpl_walk.specs.Internal.Runs.{prints, store_at}
+use Rattle.mpl_walk.proofs.StepResults.{comes_stopped}
 use Rattle.mpl_walk.proofs.Running.{prints_line, stands_at, still_stopped}
 use Rattle.mpl_walk.proofs.body.print.Goals as goal
 

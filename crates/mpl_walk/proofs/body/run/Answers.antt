@@ -1,6 +1,6 @@
 use Rattle.std.proofs.Common.{sym, ap, subst, ◌∙◌}
 use Rattle.mpl_mean.specs.Meaning.StatementMeaning.{Effect, does}
-use Rattle.mpl_walk.specs.Runs.{Comes, prints, store_at}
+use Rattle.mpl_walk.specs.Internal.Runs.{Comes, prints, store_at}
 use Rattle.mpl_walk.proofs.Running.{declare_does, print_does}
 use Rattle.mpl_walk.proofs.body.run.Goals as goal
 

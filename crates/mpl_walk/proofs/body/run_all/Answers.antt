@@ -4,9 +4,9 @@ use Rattle.std.specs.List.{list_all}
 use Rattle.mpl_mean.specs.FirstForms.FirstForm.{is_first_statement}
 use Rattle.mpl_mean.specs.Meaning.StatementMeaning.{does}
 use Rattle.mpl_mean.specs.Meaning.Store.{in_turn}
-use Rattle.mpl_walk.specs.Runs.{store_at}
-use Rattle.mpl_walk.proofs.Coming.{comes_stopped}
-use Rattle.mpl_walk.proofs.Lists.{next_left, none_left}
+use Rattle.mpl_walk.specs.Internal.Runs.{store_at}
+use Rattle.mpl_walk.proofs.StepResults.{comes_stopped}
+use Rattle.mpl_mean.proofs.Lists.{next_left, none_left}
 use Rattle.mpl_walk.proofs.Running.{turn_step, turn_stopped}
 use Rattle.mpl_walk.proofs.body.run_all.Goals as goal
 

@@ -4,8 +4,8 @@ use Rattle.mpl_mean.specs.FirstForms.FirstForm.{is_first_statement}
 use Rattle.mpl_mean.specs.Meaning.Context.{Context}
 use Rattle.mpl_mean.specs.Meaning.StatementMeaning.{does}
 use Rattle.mpl_mean.specs.Meaning.Store.{Store, in_turn}
-use Rattle.mpl_walk.specs.Held.{Whole}
-use Rattle.mpl_walk.specs.Runs.{Fits, store_at}
+use Rattle.mpl_walk.specs.Internal.Held.{Whole}
+use Rattle.mpl_walk.specs.Internal.Runs.{Fits, store_at}
 use Rattle.mpl_walk.proofs.body.run_all.Given as goal
 
 abbrev pub invariant-loop-statement : goal.invariant-loop-statement

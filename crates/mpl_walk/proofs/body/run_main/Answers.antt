@@ -2,8 +2,8 @@ use Rattle.std.proofs.Common.{ℕ, map, sym, ap, subst, ◌∙◌}
 use Rattle.mpl_mean.specs.Meaning.BodyMeaning.{run}
 use Rattle.mpl_mean.specs.Meaning.StatementMeaning.{does}
 use Rattle.mpl_mean.specs.Meaning.Store.{and_then, in_turn, spend}
-use Rattle.mpl_walk.specs.Runs.{Comes, store_at, with_turns}
-use Rattle.mpl_walk.proofs.Coming.{comes_stopped}
+use Rattle.mpl_walk.specs.Internal.Runs.{Comes, store_at, with_turns}
+use Rattle.mpl_walk.proofs.StepResults.{comes_stopped}
 use Rattle.mpl_walk.proofs.Running.{still_stopped}
 use Rattle.mpl_walk.proofs.body.run_main.Goals as goal
 

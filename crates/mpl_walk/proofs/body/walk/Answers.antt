@@ -1,33 +1,42 @@
-use Rattle.std.proofs.Common.{◌≡◌, [], rules, sym, ap, subst, ◌∙◌}
-use Rattle.mpl_value.specs.declared.body.BodyResult.TheVariants.{Open}
-use Rattle.mpl_mean.specs.Meaning.BodyMeaning.{main_yield, run, yield_of}
-use Rattle.mpl_mean.specs.Meaning.Store.{Store}
-use Rattle.mpl_walk.specs.declared.setting.Progress.{Progress}
-use Rattle.mpl_walk.specs.Held.{variables_held}
-use Rattle.mpl_walk.specs.Runs.{Fits, store_at}
-use Rattle.mpl_walk.proofs.Running.{main_context, main_fits, main_store, yield_is}
+use Rattle.std.proofs.Common.{◌≡◌, List, Some, IfOk, refl, sym, ap, subst, ◌∙◌}
+use Rattle.mpl_ast.specs.declared.program.Declaration.{Declaration}
+use Rattle.mpl_ast.specs.declared.program.Program.{Program}
+use Rattle.mpl_value.specs.declared.body.Yield.{Yield}
+use Rattle.mpl_mean.specs.Meaning.BodyMeaning.{main_statements, main_yield, member_of_classes, run}
+use Rattle.std.specs.List.{list_all}
+use Rattle.mpl_walk.specs.Internal.Found.{is_int_formal}
+use Rattle.mpl_mean.specs.Meaning.Layout.{classes_of, parts_of}
+use Rattle.mpl_walk.specs.Internal.Runs.{Fits, main_store}
+use Rattle.mpl_walk.proofs.Running.{main_context, main_fits, yield_is}
+use Rattle.mpl_walk.proofs.Starting.{member_context, member_yields, no_part, start_alone}
 use Rattle.mpl_walk.proofs.body.walk.Goals as goal
 
-pub returns : goal.returns
-returns c =
-    let p = c.args.program.now in
+pub returns-in-None-clause-meaning : goal.returns-in-None-clause-meaning
+returns-in-None-clause-meaning c =
+    let p = c.args.typed.now in
     let start = c.args.start.now in
     let replies = c.args.replies.now in
     let budget = c.args.budget in
     let context = main_context p.declarations budget replies start.number in
-    let fits : Fits c.as_slice.result.now budget context = subst (λ ds. Fits ds budget context) (sym c.as_slice.ensures) (main_fits p.declarations budget replies start.number) in
-    let before : Progress = record { variables = c.new.result; lines = c.new-2.result; turns = 0 } in
-    let after = c.run_main-ran.new.progress in
     let xs = c.main_statements-statements.result.now in
-    let came = c.run_main-ran.ensures context (main_store start) fits in
-    let told = c.in_ok-end.ensures (run context xs (store_at (main_store start) before)) (store_at (main_store start) after) came in
-    let begins : store_at (main_store start) before ≡ main_store start =
-    ap (λ vs. record (main_store start) { variables = variables_held vs; lines = c.new-2.result }) c.new.ensures.items
-    ∙ ap (λ ls. record (main_store start) { lines = ls }) c.new-2.ensures in
-    let yields : yield_of p start replies budget
-    ≡ record { lines = after.lines; calls = []; creations = []; result = Open; state = start.state; turns = c.in_ok-end.turns; end = c.in_ok-end.end } =
-    yield_is p start replies budget c.requires.main
-    ∙ ap (λ all. main_yield (run context all (main_store start))) (sym c.main_statements-statements.ensures.statements)
-    ∙ ap (λ (s : Store). main_yield (run context xs s)) (sym begins)
-    ∙ told in
-    record { meaning = search rules }
+    let declared = c.as_slice.ensures ∙ ap (λ (q : Program). q.declarations) c.program-program.ensures.same in
+    let fits : Fits c.as_slice.result.now budget context = subst (λ ds. Fits ds budget context) (sym declared) (main_fits p.declarations budget replies start.number) in
+    let statements = c.main_statements-statements.ensures.statements ∙ ap (λ (q : Program). main_statements q.declarations) c.program-program.ensures.same in
+    let yields = yield_is p start replies budget c.in-None.is ∙ ap (λ all. main_yield (run context all (main_store start))) (sym statements) in
+    subst (λ (whole : Yield). IfOk c.walk_main.result (λ y. y ≡ whole)) (sym yields) (c.walk_main.ensures.meaning context fits)
+
+pub returns-in-Some-member_numbered-clause-meaning : goal.returns-in-Some-member_numbered-clause-meaning
+returns-in-Some-member_numbered-clause-meaning c =
+    let p = c.args.typed.now in
+    let start = c.args.start.now in
+    let replies = c.args.replies.now in
+    let budget = c.args.budget in
+    let id = c.in-Some.id in
+    let k = c.in-Some-member_numbered.ensures in
+    let context = member_context p.declarations budget replies start (k.0).0 in
+    let declared = c.as_slice.ensures ∙ ap (λ (q : Program). q.declarations) c.program-program.ensures.same in
+    let found : member_of_classes id.0 (classes_of p.declarations) ≡ Some k.0 = ap (λ (ds : List Declaration). member_of_classes id.0 (classes_of ds)) (sym declared) ∙ k.1 in
+    let split = start_alone p start id k.0 c.requires.fits c.in-Some.is found (ap (list_all is_int_formal) k.2.formals ∙ k.2.ints) in
+    let yields = member_yields p start replies budget id k.0 c.in-Some.is found split in
+    subst (λ (whole : Yield). IfOk c.walk_member.result (λ y. y ≡ whole)) (sym yields)
+    (c.walk_member.ensures.meaning context (k.0).1 refl (no_part (k.0).0 (parts_of p.declarations (k.0).0.state) (ap (parts_of p.declarations) k.3)) k.2)

@@ -5,7 +5,7 @@ use Rattle.mpl_mean.specs.Meaning.PlaceMeaning.{is_bool}
 use Rattle.mpl_value.specs.Words.{zeros}
 use Rattle.mpl_value.specs.Words.{words_at}
 use Rattle.mpl_mean.specs.Meaning.Values.{Value}
-use Rattle.mpl_walk.specs.Found.{IsClassOf}
+use Rattle.mpl_walk.specs.Internal.Found.{IsClassOf}
 use Rattle.mpl_walk.proofs.Declaring.{no_words, one_word}
 use Rattle.mpl_walk.proofs.body.zero.Goals as goal
 

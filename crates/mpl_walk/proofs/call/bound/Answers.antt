@@ -3,10 +3,10 @@ use Rattle.std.proofs.lemmas.Bool.{and_parts}
 use Rattle.std.specs.List.{list_all}
 use Rattle.mpl_mean.specs.Meaning.BodyMeaning.{formals_holding}
 use Rattle.mpl_value.specs.CallAnswers.{known_words}
-use Rattle.mpl_walk.specs.Found.{is_int_formal}
-use Rattle.mpl_walk.specs.Held.{Whole, arg_held, variables_held}
+use Rattle.mpl_walk.specs.Internal.Found.{is_int_formal}
+use Rattle.mpl_walk.specs.Internal.Held.{Whole, arg_held, variables_held}
 use Rattle.mpl_walk.proofs.Binding.{bound_early, bound_end, bound_step, known_more, whole_bound}
-use Rattle.mpl_walk.proofs.Lists.{left_at, next_left, none_at, none_left}
+use Rattle.mpl_mean.proofs.Lists.{left_at, next_left, none_at, none_left}
 use Rattle.mpl_walk.proofs.call.bound.Goals as goal
 use Rattle.mpl_walk.proofs.call.bound.Goals.{else-loop-place-test, then-loop-place-test+in-None}
 

@@ -3,8 +3,8 @@ use Rattle.std.specs.List.{list_all}
 use Rattle.mpl_ast.specs.declared.program.Declaration.{Declaration}
 use Rattle.mpl_mean.specs.Meaning.BodyMeaning.{formals_holding}
 use Rattle.mpl_value.specs.CallAnswers.{known_words, leftmost_trap}
-use Rattle.mpl_walk.specs.Found.{is_int_formal}
-use Rattle.mpl_walk.specs.Held.{Whole, arg_held, variables_held}
+use Rattle.mpl_walk.specs.Internal.Found.{is_int_formal}
+use Rattle.mpl_walk.specs.Internal.Held.{Whole, arg_held, variables_held}
 use Rattle.mpl_walk.proofs.call.bound.Given as goal
 
 abbrev pub invariant-loop-place : goal.invariant-loop-place

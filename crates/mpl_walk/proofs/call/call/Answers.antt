@@ -4,10 +4,10 @@ use Rattle.mpl_value.specs.declared.body.Arg.{Arg}
 use Rattle.mpl_mean.specs.FirstForms.FirstForm.{is_first_call, is_first_flow}
 use Rattle.mpl_mean.specs.Meaning.CallMeaning.{passes, regular_call}
 use Rattle.mpl_mean.specs.Meaning.Store.{Step, variable_named}
-use Rattle.mpl_walk.specs.Held.{arg_held}
-use Rattle.mpl_walk.specs.Runs.{Comes, with_turns}
+use Rattle.mpl_walk.specs.Internal.Held.{arg_held}
+use Rattle.mpl_walk.specs.Internal.Runs.{Comes, with_turns}
 use Rattle.mpl_walk.proofs.Calling.{on_name}
-use Rattle.mpl_walk.proofs.Coming.{stands_with}
+use Rattle.mpl_walk.proofs.StepResults.{stands_with}
 use Rattle.mpl_walk.proofs.Passing.{call_built, call_named}
 use Rattle.mpl_walk.proofs.call.call.Goals as goal
 

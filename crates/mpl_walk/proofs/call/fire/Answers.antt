@@ -4,8 +4,8 @@ use Rattle.mpl_value.specs.declared.body.Arg.{Arg}
 use Rattle.mpl_mean.specs.Meaning.BodyMeaning.{formals_holding}
 use Rattle.mpl_value.specs.CallAnswers.{known_words}
 use Rattle.mpl_mean.specs.Meaning.Store.{Step, Goes}
-use Rattle.mpl_walk.specs.Held.{Stands, arg_held}
-use Rattle.mpl_walk.specs.Runs.{with_turns}
+use Rattle.mpl_walk.specs.Internal.Held.{Stands, arg_held}
+use Rattle.mpl_walk.specs.Internal.Runs.{with_turns}
 use Rattle.mpl_walk.proofs.Calling.{body_gives, inside}
 use Rattle.mpl_walk.proofs.call.fire.Goals as goal
 

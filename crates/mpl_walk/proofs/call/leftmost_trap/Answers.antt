@@ -3,7 +3,7 @@ use Rattle.std.proofs.lemmas.List.{at_drop_more}
 use Rattle.mpl_value.specs.CallAnswers.{leftmost_trap}
 use Rattle.mpl_walk.specs.declared.held.Held.{Held}
 use Rattle.mpl_walk.specs.declared.held.Held.TheVariants.{Know}
-use Rattle.mpl_walk.specs.Held.{arg_held}
+use Rattle.mpl_walk.specs.Internal.Held.{arg_held}
 use Rattle.mpl_walk.proofs.call.leftmost_trap.Goals as goal
 
 pub returns-in-Trapped : goal.returns-in-Trapped

@@ -1,6 +1,6 @@
 use Rattle.std.proofs.Common.{◌≡◌, map, drop}
 use Rattle.mpl_value.specs.CallAnswers.{leftmost_trap}
-use Rattle.mpl_walk.specs.Held.{arg_held}
+use Rattle.mpl_walk.specs.Internal.Held.{arg_held}
 use Rattle.mpl_walk.proofs.call.leftmost_trap.Given as goal
 
 -- none before has one

@@ -2,10 +2,10 @@ use Rattle.std.proofs.Common.{ℕ, map, sym, ap, subst, ◌∙◌}
 use Rattle.mpl_value.specs.CallAnswers.{known_words, leftmost_trap}
 use Rattle.mpl_mean.specs.Meaning.CallMeaning.{passes, regular_call}
 use Rattle.mpl_mean.specs.Meaning.Store.{spend}
-use Rattle.mpl_walk.specs.Held.{arg_held}
-use Rattle.mpl_walk.specs.Runs.{Comes, with_turns}
+use Rattle.mpl_walk.specs.Internal.Held.{arg_held}
+use Rattle.mpl_walk.specs.Internal.Runs.{Comes, with_turns}
 use Rattle.mpl_walk.proofs.Calling.{call_fires, call_trapped}
-use Rattle.mpl_walk.proofs.Coming.{arguments_stopped, comes_stopped, stands_with, turn_stopped}
+use Rattle.mpl_walk.proofs.StepResults.{arguments_stopped, comes_stopped, stands_with, turn_stopped}
 use Rattle.mpl_walk.proofs.call.member_call.Goals as goal
 
 pub returns-in_err-arguments-clause-gives : goal.returns-in_err-arguments-clause-gives

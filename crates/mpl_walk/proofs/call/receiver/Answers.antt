@@ -2,7 +2,7 @@ use Rattle.std.proofs.Common.{List, Option, Some, None, MatchOption, ap, sym, su
 use Rattle.mpl_ast.specs.declared.program.Declaration.{Declaration}
 use Rattle.mpl_mean.specs.Meaning.CallMeaning.{call_of_member, regular_call}
 use Rattle.mpl_mean.specs.Meaning.Layout.{class_named, class_of_type, classes_of}
-use Rattle.mpl_walk.specs.Found.{IsClassOf}
+use Rattle.mpl_walk.specs.Internal.Found.{IsClassOf}
 use Rattle.mpl_walk.proofs.Calling.{on_class, on_found, on_missing, on_other}
 use Rattle.mpl_walk.proofs.call.receiver.Goals as goal
 

@@ -3,7 +3,7 @@ use Rattle.mpl_ast.specs.declared.expression.Sum.{the_lemmas}
 use Rattle.mpl_mean.specs.Meaning.ExpressionMeaning.{Evaluates}
 use Rattle.mpl_mean.specs.FirstForms.ExpressionLevels.{sum_value}
 use Rattle.mpl_mean.specs.FirstForms.FirstForm.{is_first_sum}
-use Rattle.mpl_walk.proofs.Parts.{sum_parts, one_term}
+use Rattle.mpl_walk.proofs.BuiltParts.{sum_parts, one_term}
 use Rattle.mpl_walk.proofs.evaluate.+sum_value.Goals as goal
 
 pub sum_value-requires : goal.sum_value-requires

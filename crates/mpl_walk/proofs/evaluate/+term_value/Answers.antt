@@ -3,13 +3,13 @@ use Rattle.mpl_ast.specs.declared.expression.Term.{the_lemmas}
 use Rattle.mpl_ast.specs.declared.expression.TermOperator.TheVariants.{Times}
 use Rattle.mpl_mean.specs.Meaning.ExpressionMeaning.{Evaluates, term_operation}
 use Rattle.mpl_mean.specs.FirstForms.ExpressionLevels.{term_value, unary_value}
-use Rattle.mpl_walk.specs.Evaluated.{evaluated, on_line}
+use Rattle.mpl_walk.specs.Internal.Evaluated.{evaluated, on_line}
 use Rattle.mpl_mean.specs.FirstForms.FirstForm.{is_first_term}
-use Rattle.mpl_walk.specs.Held.{words_held}
+use Rattle.mpl_walk.specs.Internal.Held.{words_held}
 use Rattle.mpl_value.specs.Arithmetic.{product}
 use Rattle.mpl_mean.specs.Meaning.Values.{first_word}
 use Rattle.mpl_walk.proofs.Values.{arithmetic_value, term_layer}
-use Rattle.mpl_walk.proofs.Parts.{term_parts, one_unary, is_Times}
+use Rattle.mpl_walk.proofs.BuiltParts.{term_parts, one_unary, is_Times}
 use Rattle.mpl_walk.proofs.evaluate.+term_value.Goals as goal
 
 pub term_value-requires : goal.term_value-requires

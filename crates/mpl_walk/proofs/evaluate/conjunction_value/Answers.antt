@@ -1,7 +1,7 @@
 use Rattle.std.proofs.Common.{ap, ◌∙◌}
 use Rattle.mpl_mean.specs.Meaning.ExpressionMeaning.{Evaluates}
 use Rattle.mpl_mean.specs.FirstForms.ExpressionLevels.{conjunction_value}
-use Rattle.mpl_walk.proofs.Parts.{one_equality}
+use Rattle.mpl_walk.proofs.BuiltParts.{one_equality}
 use Rattle.mpl_walk.proofs.evaluate.conjunction_value.Goals as goal
 
 pub returns : goal.returns

@@ -1,7 +1,7 @@
 use Rattle.std.proofs.Common.{ap, ◌∙◌}
 use Rattle.mpl_mean.specs.Meaning.ExpressionMeaning.{Evaluates}
 use Rattle.mpl_mean.specs.Meaning.ExpressionMeaning.{value_of}
-use Rattle.mpl_walk.proofs.Parts.{one_conjunction}
+use Rattle.mpl_walk.proofs.BuiltParts.{one_conjunction}
 use Rattle.mpl_walk.proofs.evaluate.expression_value.Goals as goal
 
 pub returns : goal.returns

@@ -1,7 +1,7 @@
 use Rattle.std.proofs.Common.{sym, ap, ◌∙◌}
 use Rattle.mpl_mean.specs.Meaning.ExpressionMeaning.{Evaluates}
 use Rattle.mpl_mean.specs.FirstForms.ExpressionLevels.{place_value, primary_value}
-use Rattle.mpl_walk.proofs.Parts.{one_place}
+use Rattle.mpl_walk.proofs.BuiltParts.{one_place}
 use Rattle.mpl_walk.proofs.evaluate.primary_value.Goals as goal
 
 pub returns-in-Read : goal.returns-in-Read

@@ -6,10 +6,10 @@ use Rattle.mpl_mean.specs.Meaning.ExpressionMeaning.{value_of}
 use Rattle.mpl_mean.specs.Meaning.StatementMeaning.{values_of}
 use Rattle.mpl_mean.specs.Meaning.Store.{all_of}
 use Rattle.mpl_value.specs.declared.body.BodyEnd.TheVariants as end
-use Rattle.mpl_walk.specs.Held.{value_held}
+use Rattle.mpl_walk.specs.Internal.Held.{value_held}
 use Rattle.mpl_walk.specs.declared.stop.Stop.TheVariants as stop
-use Rattle.mpl_walk.proofs.Coming.{comes_stopped}
-use Rattle.mpl_walk.proofs.Lists.{next_left, none_left}
+use Rattle.mpl_walk.proofs.StepResults.{comes_stopped}
+use Rattle.mpl_mean.proofs.Lists.{next_left, none_left}
 use Rattle.mpl_walk.proofs.Steps.{all_done, all_stops, behind, behind_none, mapped_step}
 use Rattle.mpl_walk.proofs.evaluate.values.Goals as goal
 

@@ -5,7 +5,7 @@ use Rattle.mpl_mean.specs.Meaning.Context.{Context}
 use Rattle.mpl_mean.specs.Meaning.ExpressionMeaning.{value_of}
 use Rattle.mpl_mean.specs.Meaning.StatementMeaning.{values_of}
 use Rattle.mpl_mean.specs.Meaning.Store.{Store, all_of}
-use Rattle.mpl_walk.specs.Held.{Stands, value_held}
+use Rattle.mpl_walk.specs.Internal.Held.{Stands, value_held}
 use Rattle.mpl_walk.proofs.Steps.{behind}
 use Rattle.mpl_walk.proofs.evaluate.values.Given as goal
 

@@ -1,9 +1,9 @@
 use Rattle.std.proofs.Common.{◌≡◌, ◌+◌, true, false, drop, arith, ap, subst, ◌∙◌}
 use Rattle.std.specs.Str.{bytes_eq}
 use Rattle.mpl_mean.specs.Meaning.Store.{variable_named}
-use Rattle.mpl_walk.specs.Held.{Whole, variables_held}
-use Rattle.mpl_walk.proofs.Lists.{next_left, none_left}
-use Rattle.mpl_walk.proofs.Reading.{found_environment, found_later}
+use Rattle.mpl_walk.specs.Internal.Held.{Whole, variables_held}
+use Rattle.mpl_mean.proofs.Lists.{next_left, none_left}
+use Rattle.mpl_walk.proofs.Reading.{found_there, found_later}
 use Rattle.mpl_walk.proofs.held.find.Goals as goal
 
 pub returns-then-is_same-clause-found : goal.returns-then-is_same-clause-found
@@ -13,7 +13,7 @@ returns-then-is_same-clause-found c =
     let v = c.variable-item.result in
     let next = next_left vs i v (omega arith) c.variable-item.is in
     let same : bytes_eq v.name.now c.args.name.now ≡ true = cc in
-    c.loop-variable.invariant.found ∙ ap (λ all. variable_named c.args.name.now (variables_held all)) next ∙ found_environment c.args.name.now v (drop (i + 1) vs) same
+    c.loop-variable.invariant.found ∙ ap (λ all. variable_named c.args.name.now (variables_held all)) next ∙ found_there c.args.name.now v (drop (i + 1) vs) same
 
 pub returns-then-is_same-clause-whole : goal.returns-then-is_same-clause-whole
 returns-then-is_same-clause-whole c = λ ds whole.

@@ -1,7 +1,7 @@
 use Rattle.std.proofs.Common.{◌≡◌, List, drop}
 use Rattle.mpl_ast.specs.declared.program.Declaration.{Declaration}
 use Rattle.mpl_mean.specs.Meaning.Store.{variable_named}
-use Rattle.mpl_walk.specs.Held.{Whole, variables_held}
+use Rattle.mpl_walk.specs.Internal.Held.{Whole, variables_held}
 use Rattle.mpl_walk.proofs.held.find.Given as goal
 
 abbrev pub invariant-loop-variable : goal.invariant-loop-variable

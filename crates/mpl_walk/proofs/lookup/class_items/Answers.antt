@@ -3,8 +3,8 @@ use Rattle.std.proofs.lemmas.Bool.{and_parts}
 use Rattle.std.specs.List.{list_all}
 use Rattle.mpl_ast.specs.declared.program.Declaration.{Declaration}
 use Rattle.mpl_mean.specs.Meaning.Layout.{class_named, classes_from}
-use Rattle.mpl_walk.specs.Found.{is_part, IsClassOf}
-use Rattle.mpl_walk.proofs.Lists.{next_left, none_left}
+use Rattle.mpl_walk.specs.Internal.Found.{is_part, IsClassOf}
+use Rattle.mpl_mean.proofs.Lists.{next_left, none_left}
 use Rattle.mpl_walk.proofs.lookup.class_items.Goals as goal
 
 pub loop-declaration-init : goal.loop-declaration-init

@@ -1,7 +1,7 @@
 use Rattle.std.proofs.Common.{◌≡◌, ℕ, true, drop}
 use Rattle.std.specs.List.{list_all}
 use Rattle.mpl_mean.specs.Meaning.Layout.{class_named, classes_from}
-use Rattle.mpl_walk.specs.Found.{is_part}
+use Rattle.mpl_walk.specs.Internal.Found.{is_part}
 use Rattle.mpl_walk.proofs.lookup.class_items.Given as goal
 
 abbrev pub invariant-loop-declaration : goal.invariant-loop-declaration

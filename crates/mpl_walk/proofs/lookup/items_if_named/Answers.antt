@@ -1,6 +1,6 @@
 use Rattle.std.proofs.Common.{◌≡◌, true, false, ap, sym, subst, ◌∙◌}
 use Rattle.std.specs.Str.{bytes_eq}
-use Rattle.mpl_walk.specs.Found.{is_part, SkipsClass, TakesClass}
+use Rattle.mpl_walk.specs.Internal.Found.{is_part, SkipsClass, TakesClass}
 use Rattle.mpl_walk.proofs.Finding.{skips_class, skips_function, takes_class}
 use Rattle.mpl_walk.proofs.lookup.items_if_named.Goals as goal
 

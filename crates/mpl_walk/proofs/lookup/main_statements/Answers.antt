@@ -3,7 +3,7 @@ use Rattle.std.specs.List.{list_all}
 use Rattle.mpl_ast.specs.declared.program.Declaration.{Declaration}
 use Rattle.mpl_mean.specs.Meaning.BodyMeaning.{main_statements}
 use Rattle.mpl_mean.specs.FirstForms.FirstForm.{are_first, is_first_statement}
-use Rattle.mpl_walk.proofs.Lists.{next_left}
+use Rattle.mpl_mean.proofs.Lists.{next_left}
 use Rattle.mpl_walk.proofs.Mains.{all_parts, is_behind, is_last, no_struct}
 use Rattle.mpl_walk.proofs.lookup.main_statements.Goals as goal
 

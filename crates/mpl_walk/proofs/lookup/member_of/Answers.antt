@@ -4,7 +4,7 @@ use Rattle.std.specs.List.{list_all}
 use Rattle.mpl_ast.specs.declared.class.Item.{Item}
 use Rattle.mpl_mean.specs.FirstForms.FirstForm.{is_first_item}
 use Rattle.mpl_mean.specs.Meaning.Layout.{member_named, members_from}
-use Rattle.mpl_walk.proofs.Lists.{next_left, none_left}
+use Rattle.mpl_mean.proofs.Lists.{next_left, none_left}
 use Rattle.mpl_walk.proofs.lookup.member_of.Goals as goal
 
 pub loop-item-init : goal.loop-item-init

@@ -5,10 +5,10 @@ use Rattle.mpl_mean.specs.FirstForms.FirstForm.{is_first_flow}
 use Rattle.mpl_mean.specs.Meaning.CallMeaning.{passes}
 use Rattle.mpl_mean.specs.Meaning.Store.{all_of}
 use Rattle.mpl_value.specs.declared.body.BodyEnd.TheVariants as end
-use Rattle.mpl_walk.specs.Held.{arg_held}
+use Rattle.mpl_walk.specs.Internal.Held.{arg_held}
 use Rattle.mpl_walk.specs.declared.stop.Stop.TheVariants as stop
-use Rattle.mpl_walk.proofs.Coming.{comes_stopped}
-use Rattle.mpl_walk.proofs.Lists.{next_left, none_left}
+use Rattle.mpl_walk.proofs.StepResults.{comes_stopped}
+use Rattle.mpl_mean.proofs.Lists.{next_left, none_left}
 use Rattle.mpl_walk.proofs.Steps.{all_done, all_stops, behind, behind_none, mapped_step}
 use Rattle.mpl_walk.proofs.pass.pass_all.Goals as goal
 

@@ -4,7 +4,7 @@ use Rattle.mpl_mean.specs.FirstForms.FirstForm.{is_first_flow}
 use Rattle.mpl_mean.specs.Meaning.CallMeaning.{passes}
 use Rattle.mpl_mean.specs.Meaning.Context.{Context}
 use Rattle.mpl_mean.specs.Meaning.Store.{Store, all_of}
-use Rattle.mpl_walk.specs.Held.{Stands, arg_held}
+use Rattle.mpl_walk.specs.Internal.Held.{Stands, arg_held}
 use Rattle.mpl_walk.proofs.Steps.{behind}
 use Rattle.mpl_walk.proofs.pass.pass_all.Given as goal
 

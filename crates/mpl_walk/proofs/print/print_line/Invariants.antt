@@ -1,6 +1,6 @@
 use Rattle.std.proofs.Common.{◌≡◌, map, drop, ◌++◌}
 use Rattle.mpl_mean.specs.Meaning.StatementMeaning.{line_of, texts_after_first}
-use Rattle.mpl_walk.specs.Held.{value_held}
+use Rattle.mpl_walk.specs.Internal.Held.{value_held}
 use Rattle.mpl_walk.proofs.print.print_line.Given as goal
 
 -- the line is what is there of it, and then the texts that are left

@@ -2,7 +2,7 @@ use Rattle.std.proofs.Common.{◌+◌, List, ℕ, drop, arith, sym, ap, ◌∙�
 use Rattle.mpl_types.specs.Internal.Scope.{ANumber, Scope, bound, with_variable}
 use Rattle.mpl_types.specs.Internal.Variables.{seen}
 use Rattle.mpl_types.proofs.scope.Variables.of_formals.Goals as goal
-use Rattle.mpl_walk.proofs.Lists.{next_left, none_left}
+use Rattle.mpl_mean.proofs.Lists.{next_left, none_left}
 
 pub loop-formal-init : goal.loop-formal-init
 loop-formal-init c = ap (λ (scope : Scope). bound scope c.args.formals.now) c.new-variables.ensures

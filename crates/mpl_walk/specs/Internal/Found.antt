@@ -1,5 +1,5 @@
 -- What is found among the declarations.
-use Rattle.std.specs.Prelude.{◌≡◌, ℕ, Bool, true, false, ◌&&◌, List, ◌∷◌, Option, Some}
+use Rattle.std.specs.Prelude.{◌≡◌, ℕ, ◌+◌, Bool, true, false, ◌&&◌, List, [], ◌∷◌, Option, Some}
 use Rattle.std.specs.List.{list_all}
 use Rattle.mpl_ast.specs.declared.class.Formal.{Formal}
 use Rattle.mpl_ast.specs.declared.class.Item.{Item}
@@ -25,6 +25,12 @@ pub record IsClassOf (items : List Item) (found : Option Class) : Type 0 where
   pub members : class.members ≡ members_from id items
   pub built : list_all is_first_item items ≡ true
 
+-- the items of a class. A function has none
+abbrev pub items_of : Declaration → List Item
+items_of (declaration.Struct at line name fields) = []
+items_of (declaration.Class at line kind name items) = items
+items_of (declaration.Function at result name formals body) = []
+
 abbrev pub is_int_formal : Formal → Bool
 is_int_formal formal = is_int formal.type_name
 
@@ -34,6 +40,11 @@ pub record IsMember (m : Member) (found : mean.Member) : Type 0 where
   pub body : found.body ≡ m.body.now
   pub ints : list_all is_int_formal m.formals.now ≡ true
   pub result : is_one_result m.body.now.statements ≡ true
+
+-- the item is this member, wherever it stands
+abbrev pub IsMemberOf : Item → Member → Type 0
+IsMemberOf item m = (id : ℕ)
+    → (found : mean.Member) × (found.id ≡ id) × ((others : List Item) → members_from id (item ∷ others) ≡ found ∷ members_from (id + 1) others) × IsMember m found
 
 -- ---- one after another
 

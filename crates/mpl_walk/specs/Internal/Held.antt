@@ -26,6 +26,10 @@ abbrev pub arg_held : Held → Arg
 arg_held (held.Know word) = arg.Know (words_held word)
 arg_held (held.Trapped trap) = arg.Trapped trap
 
+-- what a formal holds to which a word is passed
+abbrev pub known_held : ℤ → Held
+known_held word = held.Know (Some word)
+
 abbrev pub forced : Held → Result (Option ℤ) Trap
 forced (held.Know word) = Ok word
 forced (held.Trapped trap) = Err trap

@@ -4,7 +4,7 @@ use Rattle.std.proofs.lemmas.List.{at_drop_more, at_drop_all}
 use Rattle.std.proofs.lemmas.Option.{slice_get_cases}
 
 pub next_left : {X : Type 0} (xs : List X) (i : ℕ) (x : X) → i < length xs → x ≡ get_or xs i x → drop i xs ≡ x ∷ drop (i + 1) xs
-next_left xs i x callees is = at_drop_more (λ all. all) xs i x callees ∙ ap (λ e. e ∷ drop (i + 1) xs) (sym is)
+next_left xs i x within is = at_drop_more (λ all. all) xs i x within ∙ ap (λ e. e ∷ drop (i + 1) xs) (sym is)
 
 pub none_left : {X : Type 0} (xs : List X) (i : ℕ) → length xs ≤ i → drop i xs ≡ []
 none_left xs i past = at_drop_all (λ all. all) xs i past

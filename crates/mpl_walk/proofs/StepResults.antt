@@ -9,8 +9,8 @@ use Rattle.mpl_mean.specs.Meaning.Store.{Store, Outcome, Goes, Step, all_of, spe
 use Rattle.mpl_walk.specs.declared.held.Variable.{Variable}
 use Rattle.mpl_walk.specs.declared.stop.Stop.{Stop}
 use Rattle.mpl_walk.specs.declared.stop.Stop.TheVariants as stop
-use Rattle.mpl_walk.specs.Held.{Stands}
-use Rattle.mpl_walk.specs.Runs.{Comes, stopped, with_turns}
+use Rattle.mpl_walk.specs.Internal.Held.{Stands}
+use Rattle.mpl_walk.specs.Internal.Runs.{Comes, stopped, with_turns}
 use Rattle.mpl_walk.proofs.Calling.{arguments_stop, turn_stops}
 
 pub comes_stopped : {A B : Type 0} (budget : ℕ) (value : A → B) (outcome : Outcome B) (s : Store) (r : Result A Stop) (why : Stop)

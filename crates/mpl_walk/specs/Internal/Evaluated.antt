@@ -6,7 +6,7 @@ use Rattle.mpl_value.specs.declared.body.Arg.{Arg}
 use Rattle.mpl_value.specs.declared.body.BodyEnd.TheVariants as end
 use Rattle.mpl_value.specs.declared.known.Trap.{Trap}
 use Rattle.mpl_value.specs.declared.known.TrapKind.{TrapKind}
-use Rattle.mpl_walk.specs.Held.{arg_held, value_held}
+use Rattle.mpl_walk.specs.Internal.Held.{arg_held, value_held}
 use Rattle.mpl_walk.specs.declared.held.Held.{Held}
 use Rattle.mpl_walk.specs.declared.held.Held.TheVariants as held
 
