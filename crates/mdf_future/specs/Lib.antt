@@ -1,0 +1,4 @@
+pub mod Calls
+pub mod Consumers
+pub mod Results
+pub mod Room

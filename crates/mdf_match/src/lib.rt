@@ -1,0 +1,13 @@
+//! Matching: the tokens that come to the ports of actors, and the ticket of an actor whose last port was filled.
+#![tactic(auto)]
+
+mod datum;
+mod matcher;
+mod ports;
+mod token;
+mod worked;
+
+pub use datum::{Datum, Seen};
+pub use matcher::Matcher;
+pub use token::{Tag, Ticket, Token};
+pub use worked::two_ports;
