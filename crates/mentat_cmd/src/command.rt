@@ -38,7 +38,7 @@ pub fn quiet_command<F: Shelf, S: Source, K: Sink, E: Sink>(
 
     // Each other answer follows from the bytes that were read.
     ensures answer { IfSome (file_of words.now) (λ name. Answered (F.files shelf.old) name
-        (λ source. Answers source (Appends (K.written out.old) (K.written out.new)) (AppendsFront (K.written out.old) (K.written out.new))
+        (λ bytes. Answers bytes (Appends (K.written out.old) (K.written out.new)) (AppendsFront (K.written out.old) (K.written out.new))
         (Rose (K.faults out.old) (K.faults out.new)) result.status result.turns)
         result.status result.turns) }
 
@@ -50,7 +50,7 @@ pub fn quiet_command<F: Shelf, S: Source, K: Sink, E: Sink>(
         return refused(Status::Usage);
     };
     match shelf.read_file(alloc, name, SOURCE_LIMIT + 1) {
-        Ok(source) => answer(alloc, source.as_slice(), out),
+        Ok(bytes) => answer(alloc, bytes.as_slice(), out),
         Err(ShelfFault::Failed) => refused(Status::ReadFault),
         Err(ShelfFault::NoMemory) => refused(Status::NoMemory),
     }
@@ -63,16 +63,16 @@ fn refused(status: Status) -> Ending
     Ending { status, turns: 0 }
 }
 
-// Runs the program of a source.
-fn answer<K: Sink>(alloc: Global, source: &[u8], out: &mut K) -> Ending
-    ensures cause { Answers source.now (Appends (K.written out.old) (K.written out.new)) (AppendsFront (K.written out.old) (K.written out.new))
+// Runs the program that the bytes are the source of.
+fn answer<K: Sink>(alloc: Global, bytes: &[u8], out: &mut K) -> Ending
+    ensures cause { Answers bytes.now (Appends (K.written out.old) (K.written out.new)) (AppendsFront (K.written out.old) (K.written out.new))
         (Rose (K.faults out.old) (K.faults out.new)) result.status result.turns }
     ensures unwritten { LeavesOutput result.status → out.new ≡ out.old }
 {
-    if source.len() > SOURCE_LIMIT as usize {
+    if bytes.len() > SOURCE_LIMIT as usize {
         return refused(Status::TooLong);
     }
-    match run(alloc, source) {
+    match run(alloc, bytes) {
         Ok(done) => finish(&done, out),
         Err(Refusal::Unbuilt) => refused(Status::Unbuilt(0)),
         Err(Refusal::NoMemory) => refused(Status::NoMemory),

@@ -1,0 +1,4 @@
+pub mod PrefixLemmas
+pub mod ActorLemmas
+pub mod ViewLemmas
+pub mod Keeps
