@@ -49,7 +49,11 @@ fn each_call_of_an_output_may_fail(rt: HostRuntime) -> Result<(), Fail> {
     ] {
         let (ending, out) = run_over(rt.alloc(), source, &[], most, &[failing])?;
         assert_eq!(rt; ending, Ending { status, turns: 1 }, "{most} {failing}");
-        assert_eq!(rt; out.written().as_slice(), written.as_bytes(), "{most} {failing}");
+        assert_eq!(rt;
+            out.written().as_slice(),
+            written.as_bytes(),
+            "{most} {failing}"
+        );
     }
     Ok(())
 }
