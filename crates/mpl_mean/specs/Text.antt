@@ -6,3 +6,5 @@ pub mod ExpressionText
 pub mod StatementText
 pub mod ProgramText
 pub mod Weight
+pub mod Begins
+pub mod ParseFaults

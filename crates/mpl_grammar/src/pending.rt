@@ -1,0 +1,116 @@
+ghost use Rattle.std.specs.Prelude.{◌≡◌, ℕ, ◌+◌, ◌<◌, ◌≤◌, ◌^◌, [], ◌∷◌, ◌++◌, true, if◌then◌else◌, IfOk, OnOk, OnErr, MatchOption, None, Some};
+ghost use Rattle.mpl_grammar.specs.Machine as machine;
+ghost use Rattle.mpl_grammar.specs.Taking.{WasTaken};
+
+use crate::symbol::Symbol;
+use mpl_value::NoMemory;
+use std::alloc::Global;
+use std::collections::VecDeque;
+use std::marker::Model;
+
+/// What is still to come, first the next, and how much that weighs.
+#[derive(Drop)]
+pub struct Pending {
+    symbols: VecDeque<Symbol>,
+    total: u32,
+}
+
+impl Model for Pending {
+    ghost use Rattle.std.specs.Prelude.{List, ◌≡◌};
+    ghost use Rattle.std.specs.Coded.{codes};
+    ghost use Rattle.mpl_grammar.specs.declared.symbol.Symbol.{Symbol};
+    ghost use Rattle.mpl_grammar.specs.contracts.symbol.Symbol as symbol;
+    ghost use Rattle.mpl_grammar.specs.Machine as machine;
+
+    ghost Value = { List Symbol };
+
+    ghost coded = { Prim.hlevel (codes, symbol.the_row.coded) };
+
+    ghost view = { λ p. p.symbols.items };
+
+    ghost invariant = { λ p. p.total ≡ machine.weight p.symbols.items };
+}
+
+/// How much heavier it is where the symbol is to come.
+fn added(symbol: Symbol) -> u32
+    ensures { (w : ℕ) → machine.heavier symbol w ≡ w + result }
+{
+    match symbol {
+        Symbol::CloseParenthesis
+        | Symbol::CloseBracket
+        | Symbol::Fields
+        | Symbol::Items
+        | Symbol::Entries
+        | Symbol::BlockRest
+        | Symbol::ElseIfAny
+        | Symbol::WordEnd => 1,
+        Symbol::Operand(operators) | Symbol::Operators(operators) => operators,
+        _ => 0,
+    }
+}
+
+impl Pending {
+    /// Nothing, which is between two declarations.
+    pub fn new(alloc: Global) -> Pending
+        ensures { result ≡ [] }
+    {
+        Pending {
+            symbols: VecDeque::new(alloc),
+            total: 0,
+        }
+    }
+
+    /// The weight at the token behind which this is to come.
+    pub fn weight(&self) -> u32
+        ensures { result ≡ machine.weight self.now }
+    {
+        self.total
+    }
+
+    /// One symbol more, which is the next.
+    pub fn push(&mut self, symbol: Symbol) -> Result<(), NoMemory>
+        requires { machine.heavier symbol (machine.weight self.old) < 2 ^ 32 }
+        ensures ok { OnOk result (self.new ≡ symbol ∷ self.old) }
+        ensures err { OnErr result (self.new ≡ self.old) }
+    {
+        let more = added(symbol);
+        self.symbols.push_front(symbol)?;
+        self.total += more;
+        Ok(())
+    }
+
+    /// The next symbol, which is so no more.
+    pub fn pop(&mut self) -> Option<Symbol>
+        ensures { MatchOption result ((self.old ≡ []) × (self.new ≡ [])) (λ symbol. self.old ≡ symbol ∷ self.new) }
+    {
+        let symbol = self.symbols.pop_front()?;
+        self.total -= added(symbol);
+        Some(symbol)
+    }
+}
+
+impl Pending {
+    /// The symbols come next, in their order. It answers true.
+    pub fn push_all(&mut self, symbols: &[Symbol]) -> Result<bool, NoMemory>
+        requires { machine.weight (symbols.now ++ self.old) < 2 ^ 32 }
+        ensures { IfOk result (λ taken. (taken ≡ true) × (self.new ≡ symbols.now ++ self.old)) }
+    {
+        if let Some((first, rest)) = symbols.split_first() {
+            self.push_all(rest)?;
+            self.push(*first)?;
+        }
+        Ok(true)
+    }
+
+    /// A token of one kind, and what is to come behind it.
+    pub fn on(&mut self, fits: bool, symbols: &[Symbol]) -> Result<bool, NoMemory>
+        requires { machine.weight (symbols.now ++ self.old) < 2 ^ 32 }
+        ensures { IfOk result (λ taken. WasTaken (if fits then Some symbols.now else None) taken self.old self.new) }
+    {
+        if fits {
+            self.push_all(symbols)
+        } else {
+            Ok(false)
+        }
+    }
+}
