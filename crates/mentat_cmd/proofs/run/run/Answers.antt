@@ -32,8 +32,8 @@ ill_typed source q tokens one_tree lexed built spelled ill p b =
     let one : p ≡ q = one_tree p q tokens b.first built (subst (λ (ts : List Token). spells p ts ≡ true) same b.accepted.spelled) spelled in
     true≢false (sym (subst (λ (r : Program). is_typed r ≡ true) one b.accepted.typed) ∙ ill)
 
-pub returns-then-not-branch : goal.returns-then-not-branch
-returns-then-not-branch c =
+pub returns-then-not-branch-clause-ran : goal.returns-then-not-branch-clause-ran
+returns-then-not-branch-clause-ran c =
     ill_typed c.args.source.now c.in-Ok-parse.program c.in-Ok.tokens.list c.tokens_have_one_tree.ensures
     c.in-Ok.ensures.tokens.0 c.in-Ok-parse.ensures.built c.in-Ok-parse.ensures.text (sym c.in_ok-is_typed.ensures ∙ c.if-not-branch.true)
 
