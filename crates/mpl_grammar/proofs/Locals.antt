@@ -25,12 +25,20 @@ use Rattle.mpl_grammar.specs.declared.symbol.Symbol.TheVariants.{AName, ANumber,
 use Rattle.mpl_grammar.proofs.Passes.{Passes, ends_as, joined, passes-bracketed, passes-plain, stays, trace-heads}
 use Rattle.mpl_grammar.proofs.Operands.{IsEnd, bracket, comma, parenthesis, semicolon}
 use Rattle.mpl_grammar.proofs.Lists.{Each, EndsAt, Fills, IsListEnd, ListEndsAt, Listing, list_parenthesis, list_semicolon, more, none, some-fill}
+use Rattle.mpl_grammar.proofs.Primaries.{no_sign}
 use Rattle.mpl_grammar.proofs.Flows.{flow-drives, one_flow}
 
 pub took_numbered : (n : Number) {r x : Rest} → Reading (number n) r x → Took (kind.Number n.value) r x
 took_numbered n {r = r} {x = x} h =
     let p = token_read (λ t. is_number n.value t.kind && (t.span.from == n.from)) r x h.is in
     record { token = p.0; first = p.1; kind = number_is n.value p.0.kind (both_true _ _ p.2).0 }
+
+-- a number is taken where one has to come
+pub number_next : (n : Number) {r x : Rest} → Reading (number n) r x → (s : Stack) → next (ANumber ∷ s) (kind.Number n.value) ≡ Some s
+number_next n {r = r} {x = x} h s =
+    let p = token_read (λ t. is_number n.value t.kind && (t.span.from == n.from)) r x h.is in
+    let positive = no_sign n.value p.0.kind (both_true _ _ p.2).0 in
+    rw (positive)
 
 -- nothing was read
 pub read_nothing : {A : Type 0} (f : A → Reads) {r x : Rest} → Reading (optional (option_map f None)) r x → r.tokens ≡ x.tokens
@@ -42,7 +50,7 @@ pub dimension-passes : (d : Dimension) (q z : Stack) → next q (kind.Mark m.Ope
     → Passes (weight z) r q (dimension_weighs d) (weight z) x z
 dimension-passes d q z e h =
     let u = parts d.at (mark_on d.mark_line m.OpenBracket ∷ number d.number ∷ mark m.CloseBracket ∷ []) h in
-    let p = passes-bracketed (took_mark_on d.mark_line m.OpenBracket u.1) e refl (passes-plain (took_numbered d.number u.2.1) refl refl) (took_mark m.CloseBracket u.2.2) refl refl in
+    let p = passes-bracketed (took_mark_on d.mark_line m.OpenBracket u.1) e refl (passes-plain (took_numbered d.number u.2.1) (number_next d.number u.2.1 _) refl) (took_mark m.CloseBracket u.2.2) refl refl in
     record { seen = p.seen; after = p.after }
 
 -- ---- declarators

@@ -1,6 +1,8 @@
 -- There is a tree that reads some tokens, whatever number its first node has.
 use Rattle.std.proofs.Common.{◌≡◌, ℕ, ℤ, ◌+◌, Bool, true, false, ◌&&◌, ◌||◌, ◌==◌, List, [], ◌∷◌, map, Some, None, pos, if◌then◌else◌, refl, ap, ◌∙◌, eq-eqb, ◌⊎◌, inl, inr}
 use Rattle.std.specs.Option.{option_and_then}
+use Rattle.std.specs.Ordering.{int_eq}
+use Rattle.std.specs.Prelude.{int_le}
 use Rattle.std.proofs.lemmas.Bool.Decides.{Decides-int_eq}
 use Rattle.std.proofs.lemmas.Slice.Eq.{bytes_eq-Decides}
 use Rattle.mpl_ast.specs.declared.place.At.{At}
@@ -77,7 +79,7 @@ value_of (kind.Mark o) = pos 0
 pub number_fits : (k : TokenKind) → is_any_number k ≡ true → is_number (value_of k) k ≡ true
 unfolding value_of
 number_fits (kind.Name text) h = absurd cc
-number_fits (kind.Number value) h = (Decides-int_eq value value).1 refl
+number_fits (kind.Number value) h = both_are (int_le (pos 0) value) (int_eq value value) h ((Decides-int_eq value value).1 refl)
 number_fits (kind.Keyword w) h = absurd cc
 number_fits (kind.Mark o) h = absurd cc
 

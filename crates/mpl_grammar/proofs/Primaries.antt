@@ -1,5 +1,7 @@
 -- Operands take the machine along.
-use Rattle.std.proofs.Common.{◌≡◌, ℕ, ℤ, ◌+◌, List, [], ◌∷◌, ◌++◌, map, Some, refl, add-zero}
+use Rattle.std.proofs.Common.{◌≡◌, ℕ, ℤ, ◌+◌, true, List, [], ◌∷◌, ◌++◌, map, Some, refl, ap, sym, ◌∙◌, add-zero}
+use Rattle.std.specs.Ordering.{int_eq}
+use Rattle.std.specs.Prelude.{int_le, pos}
 use Rattle.mpl_ast.specs.declared.expression.Target.{Target}
 use Rattle.mpl_ast.specs.declared.expression.Target.TheVariants as target
 use Rattle.mpl_ast.specs.declared.place.At.{At}
@@ -12,7 +14,8 @@ use Rattle.mpl_mean.specs.Text.ExpressionText.{target_text}
 use Rattle.mpl_mean.specs.Text.Reading.{Reads, Rest, ◌>>◌, is_number, keyword, mark, mark_on, name, node, separated_if_any, token}
 use Rattle.mpl_mean.specs.Text.Weight.{Weighs, ◌⨾◌, bracketed, no_token, plain, target_weighs, whole, with_commas}
 use Rattle.mpl_mean.proofs.OneTree.BothRead.{Reading, Through, inside, parts}
-use Rattle.mpl_mean.proofs.OneTree.BothReadTokens.{Took, took_first, took_keyword, took_mark, took_mark_on, took_name, took_number}
+use Rattle.mpl_mean.proofs.OneTree.BothReadTokens.{Took, number_is, took_first, took_keyword, took_mark, took_mark_on, took_name, took_number, token_read}
+use Rattle.mpl_mean.proofs.Truth.{both_true}
 use Rattle.mpl_grammar.specs.Grammar.{Stack}
 use Rattle.mpl_grammar.specs.Machine.{next, weight}
 use Rattle.mpl_grammar.specs.declared.symbol.Symbol.TheVariants.{AName, CloseParenthesis, CloseBracket, FlowOwn, FlowName, FlowField, ExpressionsIfAny, Operand, Operators, OperandName, ElementIfAny, OpenNothing}
@@ -26,12 +29,12 @@ pub record Taken (n : ℕ) (xs s : Stack) (k : TokenKind) : Type 0 where
   pub behind : Behind n stack
   pub is : next xs k ≡ Some (stack ++ s)
 
-number_taken : {n : ℕ} {xs s : Stack} → Start n xs s → (value : ℤ) → Taken n xs s (kind.Number value)
-number_taken (at_operand n s) value = record { stack = Operators n ∷ []; behind = operators n; is = refl }
-number_taken (at_flow s) value = record { stack = Operators 0 ∷ []; behind = operators 0; is = refl }
-number_taken (at_flows s) value = record { stack = Operators 0 ∷ []; behind = operators 0; is = refl }
-number_taken (at_expression s) value = record { stack = Operators 0 ∷ []; behind = operators 0; is = refl }
-number_taken (at_expressions s) value = record { stack = Operators 0 ∷ []; behind = operators 0; is = refl }
+number_taken : {n : ℕ} {xs s : Stack} → Start n xs s → (value : ℤ) → int_le (pos 0) value ≡ true → Taken n xs s (kind.Number value)
+number_taken (at_operand n s) value h = record { stack = Operators n ∷ []; behind = operators n; is = rw (h) }
+number_taken (at_flow s) value h = record { stack = Operators 0 ∷ []; behind = operators 0; is = rw (h) }
+number_taken (at_flows s) value h = record { stack = Operators 0 ∷ []; behind = operators 0; is = rw (h) }
+number_taken (at_expression s) value h = record { stack = Operators 0 ∷ []; behind = operators 0; is = rw (h) }
+number_taken (at_expressions s) value h = record { stack = Operators 0 ∷ []; behind = operators 0; is = rw (h) }
 
 true_taken : {n : ℕ} {xs s : Stack} → Start n xs s → Taken n xs s (kind.Keyword word.True)
 true_taken (at_operand n s) = record { stack = Operators n ∷ []; behind = operators n; is = refl }
@@ -70,15 +73,24 @@ open_next (at_expressions s) = refl
 
 -- ---- operands of one token
 
+driven-taken : {k : TokenKind} {n : ℕ} {xs s : Stack} → Taken n xs s k → {r x : Rest} → Took k (inside r) x → Driven n xs s r plain x
+driven-taken {n = n} {s = s} t h =
+    let p = passes-plain h t.is (weight-behind t.behind s) in
+    record { more = n; stack = t.stack; behind = t.behind; passes = record { seen = p.seen; after = p.after } }
+
 pub drives-taken : (at : At) {a : Reads} {k : TokenKind} → ((r x : Rest) → Reading a r x → Took k r x) → ((n : ℕ) (xs s : Stack) → Start n xs s → Taken n xs s k) → Drives (node at a) plain
-drives-taken at {a = a} {k = k} took taken = record { drive = λ start h. driven start (taken _ _ _ start) (took _ _ (parts at (a ∷ []) h)) } where
-  driven : {n : ℕ} {xs s : Stack} → Start n xs s → Taken n xs s k → {r x : Rest} → Took k (inside r) x → Driven n xs s r plain x
-  driven {n = n} {s = s} start t h =
-      let p = passes-plain h t.is (weight-behind t.behind s) in
-      record { more = n; stack = t.stack; behind = t.behind; passes = record { seen = p.seen; after = p.after } }
+drives-taken at {a = a} took taken = record { drive = λ start h. driven-taken (taken _ _ _ start) (took _ _ (parts at (a ∷ []) h)) }
+
+-- a number that a token is
+pub no_sign : (value : ℤ) (k : TokenKind) → is_number value k ≡ true → int_le (pos 0) value ≡ true
+no_sign value k h = (both_true (int_le (pos 0) value) (int_eq value value) (ap (is_number value) (sym (number_is value k h)) ∙ h)).0
 
 pub drives-number : (at : At) (value : ℤ) → Drives (node at (token (λ t. is_number value t.kind))) plain
-drives-number at value = drives-taken at (λ r x h. took_number value h) (λ n xs s start. number_taken start value)
+drives-number at value = record { drive = λ start h. driven start (parts at (token (λ t. is_number value t.kind) ∷ []) h) } where
+  driven : {n : ℕ} {xs s : Stack} → Start n xs s → {r x : Rest} → Reading (token (λ t. is_number value t.kind)) (inside r) x → Driven n xs s r plain x
+  driven start {r = r} {x = x} h =
+      let t = token_read (λ t. is_number value t.kind) (inside r) x h.is in
+      driven-taken (number_taken start value (no_sign value t.0.kind t.2)) (took_number value h)
 
 pub drives-true : (at : At) → Drives (node at (keyword word.True)) plain
 drives-true at = drives-taken at (λ r x h. took_keyword word.True h) (λ n xs s start. true_taken start)

@@ -40,7 +40,7 @@ use Rattle.mpl_grammar.specs.declared.symbol.Symbol.TheVariants.{ABlock, AName, 
 use Rattle.mpl_grammar.proofs.Passes.{Passes, ends_as, joined, passes-bracketed, passes-plain, prepend, stays, trace-heads, trace-took}
 use Rattle.mpl_grammar.proofs.Operands.{IsEnd, bracket, comma, parenthesis, semicolon}
 use Rattle.mpl_grammar.proofs.Lists.{Each, EndsAt, Fills, IsListEnd, ListEndsAt, Listing, list_parenthesis, list_semicolon, more, none, some-fill}
-use Rattle.mpl_grammar.proofs.Locals.{dimension-passes, read_nothing, took_numbered, took_type, type_head}
+use Rattle.mpl_grammar.proofs.Locals.{dimension-passes, number_next, read_nothing, took_numbered, took_type, type_head}
 use Rattle.mpl_grammar.proofs.Statements.{test-passes}
 use Rattle.mpl_grammar.proofs.StatementTrees.{block-drives}
 
@@ -233,7 +233,7 @@ entry-passes e z h =
     let u = parts e.at (entry_parts e) h in
     let accept = took_keyword word.Accept u.2.2.2.2.1 in
     out (joined (passes-plain (took_keyword word.Priority u.1) refl refl)
-    (joined (passes-plain (took_numbered e.priority u.2.1) refl refl)
+    (joined (passes-plain (took_numbered e.priority u.2.1) (number_next e.priority u.2.1 _) refl)
     (joined (passes-plain (took_mark m.Colon u.2.2.1) refl refl)
     (joined (guard-passes e.guard (AName ∷ Semicolon ∷ Entries ∷ z) u.2.2.2.1 (took_first accept))
     (joined (passes-plain accept refl refl)

@@ -1,5 +1,5 @@
 -- Sorts of tokens that have one place in the grammar.
-use Rattle.std.specs.Prelude.{Bool, true, false, ◌||◌}
+use Rattle.std.specs.Prelude.{Bool, true, false, ◌||◌, int_le, pos}
 use Rattle.mpl_ast.specs.declared.token.Keyword.TheVariants as word
 use Rattle.mpl_ast.specs.declared.token.Mark.TheVariants as m
 use Rattle.mpl_ast.specs.declared.token.TokenKind.{TokenKind}
@@ -12,9 +12,10 @@ is_any_name (kind.Number value) = false
 is_any_name (kind.Keyword k) = false
 is_any_name (kind.Mark m) = false
 
+-- a number is written without a sign
 abbrev pub is_any_number : TokenKind → Bool
 is_any_number (kind.Name text) = false
-is_any_number (kind.Number value) = true
+is_any_number (kind.Number value) = int_le (pos 0) value
 is_any_number (kind.Keyword k) = false
 is_any_number (kind.Mark m) = false
 

@@ -3,6 +3,7 @@ use Rattle.std.specs.Prelude.{ℕ, ◌+◌, Bool, true, false, List, [], ◌∷�
 use Rattle.std.specs.List.{list_all}
 use Rattle.mpl_ast.specs.declared.token.Token.{Token}
 use Rattle.mpl_ast.specs.declared.token.TokenKind.{TokenKind}
+use Rattle.mpl_mean.specs.Limits.{most_weight}
 use Rattle.mpl_grammar.specs.Grammar.{Row, Stack, declaration_rows, may_end, rows}
 use Rattle.mpl_grammar.specs.declared.symbol.Symbol.{Symbol}
 use Rattle.mpl_grammar.specs.declared.symbol.Symbol.TheVariants.{CloseParenthesis, CloseBracket, Fields, Items, Entries, BlockRest, ElseIfAny, WordEnd, Operand, Operators}
@@ -84,7 +85,7 @@ pub data Fault : Type 0 where
 
 abbrev pub behind : Option Stack → ℕ → (Stack → Option Fault) → Option Fault
 behind None at go = Some (Syntax at)
-behind (Some s) at go = if nat_le (weight s) 64 then go s else Some (TooDeep at)
+behind (Some s) at go = if nat_le (weight s) most_weight then go s else Some (TooDeep at)
 
 -- the first fault of the tokens, of a source that ends there
 abbrev pub fault : ℕ → List Token → Stack → Option Fault

@@ -32,7 +32,7 @@ pub fn is_name(kind: &TokenKind) -> bool
 pub fn is_number(kind: &TokenKind) -> bool
     ensures { result ≡ spec.is_any_number kind.now }
 {
-    matches!(kind, TokenKind::Number(_))
+    matches!(kind, TokenKind::Number(value) if *value >= 0)
 }
 
 /// `int` or `bool`

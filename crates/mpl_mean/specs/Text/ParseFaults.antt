@@ -1,7 +1,8 @@
 -- The faults of tokens that are those of no program, or of one that is too deep, each with its place.
-use Rattle.std.specs.Prelude.{◌≡◌, ℕ, true, List, [], ◌∷◌, ◌++◌}
+use Rattle.std.specs.Prelude.{◌≡◌, ℕ, ◌+◌, true, List, [], ◌∷◌, ◌++◌}
 use Rattle.mpl_ast.specs.declared.program.Program.{Program}
 use Rattle.mpl_ast.specs.declared.token.Token.{Token}
+use Rattle.mpl_mean.specs.Limits.{most_weight}
 use Rattle.mpl_mean.specs.Text.Begins.{Begins, IsLightFront, WeighsBehind}
 use Rattle.mpl_mean.specs.Text.ProgramText.{spells}
 
@@ -20,7 +21,7 @@ place_of [] end = end
 place_of (t ∷ ts) end = t.span.from
 
 -- No program has the tokens. Those before the place begin one, and none goes on from there; no program that begins so
--- weighs more than 64 before it.
+-- weighs more than the limit before it.
 pub record IsSyntaxFault (tokens : List Token) (end at : ℕ) : Type 0 where
   pub front : List Token
   pub rest : List Token
@@ -31,7 +32,7 @@ pub record IsSyntaxFault (tokens : List Token) (end at : ℕ) : Type 0 where
   pub no_further : GoesNoFurther front rest
   pub none : HasNoProgram tokens
 
--- The tokens up to the one at the place begin a program, and there the weight is above 64 for the first time.
+-- The tokens up to the one at the place begin a program, and there the weight is above the limit for the first time.
 pub record IsTooDeep (tokens : List Token) (at : ℕ) : Type 0 where
   pub front : List Token
   pub token : Token
@@ -40,4 +41,4 @@ pub record IsTooDeep (tokens : List Token) (at : ℕ) : Type 0 where
   pub place : at ≡ token.span.from
   pub begins : Begins (front ++ token ∷ [])
   pub light : IsLightFront front
-  pub heavy : WeighsBehind front token 65
+  pub heavy : WeighsBehind front token (most_weight + 1)
