@@ -6,8 +6,8 @@ use Rattle.mpl_ast.specs.declared.program.Program.{Program}
 use Rattle.mpl_ast.specs.declared.token.Token.{Token}
 use Rattle.mpl_mean.specs.Text.ProgramText.{declaration_text, nothing_left, spells}
 use Rattle.mpl_mean.proofs.Truth.{both_true, some_is}
-use Rattle.mpl_grammar.specs.Grammar.{Row, Stack, declaration_rows, may_end, rows}
-use Rattle.mpl_grammar.specs.Machine.{found, is_accepted, next, onward, or_later, takes, trace}
+use Rattle.mpl_grammar.specs.Internal.Grammar.{Row, Stack, declaration_rows, may_end, rows}
+use Rattle.mpl_grammar.specs.Internal.Machine.{found, is_accepted, next, onward, or_later, takes, trace}
 use Rattle.mpl_grammar.specs.declared.symbol.Symbol.{Symbol}
 use Rattle.mpl_grammar.proofs.Makes.{Makes, all_each, makes-each, makes-end, place_of, reads-node, rest_at}
 use Rattle.mpl_grammar.proofs.Parts.{AllCombine, Part, Parts, done, part, split}

@@ -8,9 +8,9 @@ use Rattle.mpl_ast.specs.declared.token.Token.{Token}
 use Rattle.mpl_ast.specs.declared.token.TokenKind.{TokenKind}
 use Rattle.mpl_ast.specs.declared.token.TokenKind.TheVariants as kind
 use Rattle.mpl_mean.specs.Text.Reading.{is_keyword, is_mark}
-use Rattle.mpl_grammar.specs.Grammar.{Stack}
-use Rattle.mpl_grammar.specs.Kinds.{is_operator}
-use Rattle.mpl_grammar.specs.Machine.{is_accepted, next, onward, trace}
+use Rattle.mpl_grammar.specs.Internal.Grammar.{Stack}
+use Rattle.mpl_grammar.specs.Internal.Kinds.{is_operator}
+use Rattle.mpl_grammar.specs.Internal.Machine.{is_accepted, next, onward, trace}
 use Rattle.mpl_grammar.specs.declared.symbol.Symbol.{Symbol}
 use Rattle.mpl_grammar.specs.declared.symbol.Symbol.TheVariants.{AName, ANumber, AType, Semicolon, Colon, Dot, Assign, MentatWord, ClassWord, AcceptWord, CloseParenthesis, CloseBracket, OpenFields, OpenItems, OpenEntries, OpenFormals, OpenTest, OpenFor, OpenPrint, OpenFlow, OpenFlows, OpenNothing, ABlock, Fields, Items, Entries, BehindItemName, DimensionIfAny, MoreNames, FormalsIfAny, MoreFormals, GuardIfAny, BlockRest, AStatement, StatementName, StatementDot, StatementField, StatementFieldDot, DeclaratorEnd, MoreDeclarators, ElseIfAny, WordEnd, ForStart, ForName, ForStep, AssignedName, AssignedField, AFlow, FlowOwn, FlowName, FlowField, FlowsIfAny, MoreFlows, ExpressionIfAny, ExpressionsIfAny, MoreExpressions, Operand, Operators, OperandName, ElementIfAny}
 

@@ -21,8 +21,8 @@ use Rattle.mpl_mean.specs.Text.Weight as weighing
 use Rattle.mpl_mean.specs.Text.Weight.{Weighs, ◌⨾◌, assignment_weighs, bracketed, call_weighs, expression_weighs, flow_weighs, place_weighs, plain, target_weighs, with_commas, whole}
 use Rattle.mpl_mean.proofs.OneTree.BothRead.{Reading, inside, parts}
 use Rattle.mpl_mean.proofs.OneTree.BothReadTokens.{took_first, took_keyword, took_mark, took_mark_on, took_name}
-use Rattle.mpl_grammar.specs.Grammar.{Stack}
-use Rattle.mpl_grammar.specs.Machine.{next, weight}
+use Rattle.mpl_grammar.specs.Internal.Grammar.{Stack}
+use Rattle.mpl_grammar.specs.Internal.Machine.{next, weight}
 use Rattle.mpl_grammar.specs.declared.symbol.Symbol.TheVariants.{AFlow, AName, Assign, CloseBracket, CloseParenthesis, FlowField, FlowName, FlowOwn, FlowsIfAny, MoreFlows, OpenFlows, Operand}
 use Rattle.mpl_grammar.proofs.Passes.{Passes, joined, passes-bracketed, passes-plain}
 use Rattle.mpl_grammar.proofs.Operands.{Start, at_flow, at_flows, at_operand, bracket}

@@ -18,6 +18,7 @@ pub mod MakesPrograms
 pub mod Rows
 pub mod Accepted
 pub mod Growth
-pub mod Faults
+pub mod FaultsFit
 pub mod WeightLaws
 pub mod Stepping
+pub mod Behind

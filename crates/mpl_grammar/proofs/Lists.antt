@@ -7,8 +7,8 @@ use Rattle.mpl_mean.specs.Text.Reading.{Reads, Rest, after_first, mark, separate
 use Rattle.mpl_mean.specs.Text.Weight.{Weighs, each_after_comma, whole, with_commas}
 use Rattle.mpl_mean.proofs.OneTree.BothRead.{Reading, in_turn, some_same}
 use Rattle.mpl_mean.proofs.OneTree.BothReadTokens.{Heads, head, took_first, took_mark}
-use Rattle.mpl_grammar.specs.Grammar.{Stack}
-use Rattle.mpl_grammar.specs.Machine.{next, trace, weight}
+use Rattle.mpl_grammar.specs.Internal.Grammar.{Stack}
+use Rattle.mpl_grammar.specs.Internal.Machine.{next, trace, weight}
 use Rattle.mpl_grammar.specs.declared.symbol.Symbol.{Symbol}
 use Rattle.mpl_grammar.specs.declared.symbol.Symbol.TheVariants.{Operand, ExpressionsIfAny, MoreExpressions}
 use Rattle.mpl_grammar.proofs.Passes.{Passes, as_whole, ends_as, joined, passes-plain, stays, trace-heads}

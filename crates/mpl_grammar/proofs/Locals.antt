@@ -19,8 +19,8 @@ use Rattle.mpl_mean.specs.Text.Weight.{declarator_weighs, dimension_weighs, loca
 use Rattle.mpl_mean.proofs.OneTree.BothRead.{Reading, in_turn, inside, parts, some_same}
 use Rattle.mpl_mean.proofs.OneTree.BothReadTokens.{Heads, Took, number_is, took_first, took_keyword, took_mark, took_mark_on, took_name, token_read}
 use Rattle.mpl_mean.proofs.Truth.{both_true}
-use Rattle.mpl_grammar.specs.Grammar.{Stack}
-use Rattle.mpl_grammar.specs.Machine.{next, weight}
+use Rattle.mpl_grammar.specs.Internal.Grammar.{Stack}
+use Rattle.mpl_grammar.specs.Internal.Machine.{next, weight}
 use Rattle.mpl_grammar.specs.declared.symbol.Symbol.TheVariants.{AName, ANumber, CloseBracket, DeclaratorEnd, MoreDeclarators}
 use Rattle.mpl_grammar.proofs.Passes.{Passes, ends_as, joined, passes-bracketed, passes-plain, stays, trace-heads}
 use Rattle.mpl_grammar.proofs.Operands.{IsEnd, bracket, comma, parenthesis, semicolon}

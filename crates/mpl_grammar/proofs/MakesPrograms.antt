@@ -10,7 +10,7 @@ use Rattle.mpl_ast.specs.declared.token.Token.{Token}
 use Rattle.mpl_mean.specs.Text.ProgramText.{declaration_text, entry_text, field_name_text, field_text, formal_text, formals_text, guard_text, item_text, kind_text, result_text}
 use Rattle.mpl_mean.specs.Text.Reading.{is_keyword, is_mark}
 use Rattle.mpl_mean.specs.Text.StatementText.{block_text, dimension_text}
-use Rattle.mpl_grammar.specs.Kinds.{is_access, is_any_name, is_any_number, is_kind, is_type}
+use Rattle.mpl_grammar.specs.Internal.Kinds.{is_access, is_any_name, is_any_number, is_kind, is_type}
 use Rattle.mpl_grammar.proofs.Makes.{Made, Makes, ◌▸◌, all_after_first, makes-separated, makes-type, named, numbered, past, place_of, reads-keyword, reads-mark, reads-mark_on, reads-name, reads-node, reads-number, rest_at}
 use Rattle.mpl_grammar.proofs.MakesStatements.{Test}
 use Rattle.mpl_grammar.proofs.Parts.{Around, Braced, any, around, braced, up_to}

@@ -19,9 +19,9 @@ use Rattle.mpl_mean.specs.Text.Reading.{Reads, Rest, ◌>>◌, is_mark, mark_on,
 use Rattle.mpl_mean.specs.Text.Weight.{Weighs, ◌⨾◌, binary, counted}
 use Rattle.mpl_mean.proofs.OneTree.BothRead.{Reading, Through, inside, parts}
 use Rattle.mpl_mean.proofs.OneTree.BothReadTokens.{took_mark_on}
-use Rattle.mpl_grammar.specs.Grammar.{Stack}
-use Rattle.mpl_grammar.specs.Kinds.{is_operator}
-use Rattle.mpl_grammar.specs.Machine.{next, weight}
+use Rattle.mpl_grammar.specs.Internal.Grammar.{Stack}
+use Rattle.mpl_grammar.specs.Internal.Kinds.{is_operator}
+use Rattle.mpl_grammar.specs.Internal.Machine.{next, weight}
 use Rattle.mpl_grammar.specs.declared.symbol.Symbol.TheVariants.{AFlow, FlowOwn, FlowName, FlowField, FlowsIfAny, MoreFlows, ExpressionIfAny, ExpressionsIfAny, MoreExpressions, Operand, Operators, OperandName, ElementIfAny}
 use Rattle.mpl_grammar.proofs.Passes.{Passes, joined, passes-counted}
 

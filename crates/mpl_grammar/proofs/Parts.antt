@@ -13,8 +13,8 @@ use Rattle.mpl_mean.specs.Text.ProgramText.{entry_text, field_name_text, field_t
 use Rattle.mpl_mean.specs.Text.Reading.{Reads, is_keyword, is_mark, optional}
 use Rattle.mpl_mean.specs.Text.StatementText.{assignment_text, block_text, declarator_text, dimension_text, flow_text, for_head_text, for_start_text, statement_of, statement_text}
 use Rattle.mpl_mean.proofs.OneTree.BothRead.{Reading}
-use Rattle.mpl_grammar.specs.Grammar.{Row, Stack, before}
-use Rattle.mpl_grammar.specs.Kinds.{is_any_name, is_any_number, is_type}
+use Rattle.mpl_grammar.specs.Internal.Grammar.{Row, Stack, before}
+use Rattle.mpl_grammar.specs.Internal.Kinds.{is_any_name, is_any_number, is_type}
 use Rattle.mpl_grammar.specs.declared.symbol.Symbol.{Symbol}
 use Rattle.mpl_grammar.specs.declared.symbol.Symbol.TheVariants.{AName, ANumber, AType, Semicolon, Colon, Dot, Assign, MentatWord, ClassWord, AcceptWord, CloseParenthesis, CloseBracket, OpenFields, OpenItems, OpenEntries, OpenFormals, OpenTest, OpenFor, OpenPrint, OpenFlow, OpenFlows, OpenNothing, ABlock, Fields, Items, Entries, BehindItemName, DimensionIfAny, MoreNames, FormalsIfAny, MoreFormals, GuardIfAny, BlockRest, AStatement, StatementName, StatementDot, StatementField, StatementFieldDot, DeclaratorEnd, MoreDeclarators, ElseIfAny, WordEnd, ForStart, ForName, ForStep, AssignedName, AssignedField, AFlow, FlowOwn, FlowName, FlowField, FlowsIfAny, MoreFlows, ExpressionIfAny, ExpressionsIfAny, MoreExpressions, Operand, Operators, OperandName, ElementIfAny}
 use Rattle.mpl_grammar.proofs.Chains.{Pieces}

@@ -16,8 +16,8 @@ use Rattle.mpl_mean.specs.Text.Weight.{Weighs, ◌⨾◌, bracketed, no_token, p
 use Rattle.mpl_mean.proofs.OneTree.BothRead.{Reading, Through, inside, parts}
 use Rattle.mpl_mean.proofs.OneTree.BothReadTokens.{Took, number_is, took_first, took_keyword, took_mark, took_mark_on, took_name, took_number, token_read}
 use Rattle.mpl_mean.proofs.Truth.{both_true}
-use Rattle.mpl_grammar.specs.Grammar.{Stack}
-use Rattle.mpl_grammar.specs.Machine.{next, weight}
+use Rattle.mpl_grammar.specs.Internal.Grammar.{Stack}
+use Rattle.mpl_grammar.specs.Internal.Machine.{next, weight}
 use Rattle.mpl_grammar.specs.declared.symbol.Symbol.TheVariants.{AName, CloseParenthesis, CloseBracket, FlowOwn, FlowName, FlowField, ExpressionsIfAny, Operand, Operators, OperandName, ElementIfAny, OpenNothing}
 use Rattle.mpl_grammar.proofs.Passes.{Passes, joined, passes-bracketed, passes-plain, stays}
 use Rattle.mpl_grammar.proofs.Operands.{Behind, Driven, Drives, Start, at_expression, at_expressions, at_flow, at_flows, at_operand, bracket, element, flow_field, flow_name, flow_own, operand_name, operators, parenthesis, weight-behind}

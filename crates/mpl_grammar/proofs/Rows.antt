@@ -8,9 +8,9 @@ use Rattle.mpl_mean.specs.Text.ExpressionText.{expression_text}
 use Rattle.mpl_mean.specs.Text.ProgramText.{declaration_text, entry_text, field_name_text, field_text, formal_text, formals_text, guard_text, item_text}
 use Rattle.mpl_mean.specs.Text.Reading.{Reads, is_keyword, is_mark}
 use Rattle.mpl_mean.specs.Text.StatementText.{assignment_text, declarator_text, dimension_text, flow_text, for_start_text, statement_text}
-use Rattle.mpl_grammar.specs.Grammar.{Row, Stack, declaration_rows, flow_rows, item_rows, may_end, on, operand_rows, other_operand_rows, rows, statement_rows}
-use Rattle.mpl_grammar.specs.Kinds.{is_access, is_any_name, is_any_number, is_basic_type, is_constant, is_kind, is_operator, is_type, is_unary}
-use Rattle.mpl_grammar.specs.Machine.{takes}
+use Rattle.mpl_grammar.specs.Internal.Grammar.{Row, Stack, declaration_rows, flow_rows, item_rows, may_end, on, operand_rows, other_operand_rows, rows, statement_rows}
+use Rattle.mpl_grammar.specs.Internal.Kinds.{is_access, is_any_name, is_any_number, is_basic_type, is_constant, is_kind, is_operator, is_type, is_unary}
+use Rattle.mpl_grammar.specs.Internal.Machine.{takes}
 use Rattle.mpl_grammar.specs.declared.symbol.Symbol.{Symbol}
 use Rattle.mpl_grammar.specs.declared.symbol.Symbol.TheVariants.{AName, ANumber, AType, Semicolon, Colon, Dot, Assign, MentatWord, ClassWord, AcceptWord, CloseParenthesis, CloseBracket, OpenFields, OpenItems, OpenEntries, OpenFormals, OpenTest, OpenFor, OpenPrint, OpenFlow, OpenFlows, OpenNothing, ABlock, Fields, Items, Entries, BehindItemName, DimensionIfAny, MoreNames, FormalsIfAny, MoreFormals, GuardIfAny, BlockRest, AStatement, StatementName, StatementDot, StatementField, StatementFieldDot, DeclaratorEnd, MoreDeclarators, ElseIfAny, WordEnd, ForStart, ForName, ForStep, AssignedName, AssignedField, AFlow, FlowOwn, FlowName, FlowField, FlowsIfAny, MoreFlows, ExpressionIfAny, ExpressionsIfAny, MoreExpressions, Operand, Operators, OperandName, ElementIfAny}
 use Rattle.mpl_grammar.proofs.Chains.{Pieces, no_more, piece}

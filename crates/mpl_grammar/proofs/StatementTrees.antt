@@ -28,8 +28,8 @@ use Rattle.mpl_mean.specs.Text.Weight as weighing
 use Rattle.mpl_mean.specs.Text.Weight.{Weighs, ◌⨾◌, assignment_weighs, block_weighs, bracketed, call_weighs, else_weighs, expression_weighs, flow_weighs, for_head_weighs, for_start_weighs, if_any, in_order, local_weighs, no_token, operand_weighs, plain, statement_weighs, target_weighs, with_commas, worded, whole}
 use Rattle.mpl_mean.proofs.OneTree.BothRead.{Reading, in_turn, inside, parts}
 use Rattle.mpl_mean.proofs.OneTree.BothReadTokens.{Heads, Took, took_first, took_keyword, took_mark, took_name}
-use Rattle.mpl_grammar.specs.Grammar.{Stack}
-use Rattle.mpl_grammar.specs.Machine.{next, weight}
+use Rattle.mpl_grammar.specs.Internal.Grammar.{Stack}
+use Rattle.mpl_grammar.specs.Internal.Machine.{next, weight}
 use Rattle.mpl_grammar.specs.declared.symbol.Symbol.TheVariants.{AName, AStatement, AssignedField, AssignedName, CloseParenthesis, ElseIfAny, ExpressionIfAny, ForName, ForStart as AForStart, ForStep, OpenNothing, Operand, Semicolon, WordEnd}
 use Rattle.mpl_grammar.proofs.Passes.{Passes, as_whole, ends_as, joined, passes-bracketed, passes-counted, passes-plain, stays, trace-heads}
 use Rattle.mpl_grammar.proofs.Operands.{Drives, at_expression, at_operand, parenthesis, semicolon}

@@ -1,11 +1,12 @@
 -- What one token does, by what the next symbol takes of it.
 use Rattle.std.proofs.Common.{◌≡◌, ◌≤◌, Bool, true, false, [], ◌∷◌, Option, Some, None, if◌then◌else◌, refl, ap, sym, ◌∙◌, subst, arith}
 use Rattle.mpl_ast.specs.declared.token.TokenKind.{TokenKind}
-use Rattle.mpl_grammar.specs.Grammar.{Stack, declaration_rows, may_end}
-use Rattle.mpl_grammar.specs.Machine.{found, next, or_later, takes, weight}
-use Rattle.mpl_grammar.specs.Taking.{WasTaken}
+use Rattle.mpl_mean.specs.Limits.{most_weight}
+use Rattle.mpl_grammar.specs.Internal.Grammar.{Stack, declaration_rows, may_end}
+use Rattle.mpl_grammar.specs.Internal.Machine.{found, next, or_later, takes, weight}
+use Rattle.mpl_grammar.specs.Internal.Taking.{WasTaken}
 use Rattle.mpl_grammar.specs.declared.symbol.Symbol.{Symbol}
-use Rattle.mpl_grammar.proofs.Faults.{nothing_behind}
+use Rattle.mpl_grammar.proofs.FaultsFit.{nothing_behind}
 use Rattle.mpl_grammar.proofs.Growth.{heavier-least}
 
 taken_of : (o : Option Stack) (x : Symbol) (s new : Stack) (later : Option Stack) → WasTaken o true s new → or_later o (may_end x) s later ≡ Some new
@@ -42,7 +43,7 @@ pub goes_declared : (old mid : Stack) (b : Bool) (new : Stack) (k : TokenKind) �
 goes_declared old mid b new k e f h =
     ap (λ z. next z k) e ∙ declared_of (found declaration_rows k) b new (subst (λ z. WasTaken (found declaration_rows k) b z new) f h)
 
-pub light_below : (old : Stack) (x : Symbol) (s new : Stack) (k : TokenKind) → old ≡ x ∷ s → WasTaken (takes x k) false s new → weight old ≤ 64 → weight new ≤ 64
+pub light_below : (old : Stack) (x : Symbol) (s new : Stack) (k : TokenKind) → old ≡ x ∷ s → WasTaken (takes x k) false s new → weight old ≤ most_weight → weight new ≤ most_weight
 light_below old x s new k e h w =
     let below = heavier-least x (weight s) in
     let whole = ap weight e in

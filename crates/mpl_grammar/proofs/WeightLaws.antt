@@ -5,9 +5,9 @@ use Rattle.mpl_ast.specs.declared.program.Program.{Program}
 use Rattle.mpl_ast.specs.declared.token.Token.{Token}
 use Rattle.mpl_mean.specs.Text.ProgramText.{spells}
 use Rattle.mpl_mean.specs.Text.Weight.{weights}
-use Rattle.mpl_grammar.specs.Grammar.{Stack}
-use Rattle.mpl_grammar.specs.Machine.{Ends, is_accepted, next, onward, trace, weights_along}
-use Rattle.mpl_grammar.proofs.Faults.{accepted-prepend, nothing_behind, weights-prepend}
+use Rattle.mpl_grammar.specs.Internal.Grammar.{Stack}
+use Rattle.mpl_grammar.specs.Internal.Machine.{Ends, is_accepted, next, onward, trace, weights_along}
+use Rattle.mpl_grammar.proofs.FaultsFit.{accepted-prepend, nothing_behind, weights-prepend}
 use Rattle.mpl_grammar.proofs.Programs.{spelled-trace}
 
 weights-spelled : (p : Program) (tokens : List Token) → spells p tokens ≡ true → weights p ≡ weights_along (trace tokens [])

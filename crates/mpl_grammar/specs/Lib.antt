@@ -1,6 +1,1 @@
-pub mod Kinds
-pub mod Grammar
-pub mod Machine
-pub mod Fits
-pub mod Sources
-pub mod Taking
+pub mod Internal

@@ -1,6 +1,6 @@
 //! Tests of a token's kind.
 ghost use Rattle.std.specs.Prelude.{◌≡◌};
-ghost use Rattle.mpl_grammar.specs.Kinds as spec;
+ghost use Rattle.mpl_grammar.specs.Internal.Kinds as spec;
 ghost use Rattle.mpl_mean.specs.Text.Reading as reading;
 
 use mpl_ast::token::{Keyword, Mark, TokenKind};

@@ -1,17 +1,9 @@
 ghost use Rattle.std.specs.Prelude.{◌≡◌, ◌++◌, ◌∷◌, ℕ, List, [], length, true};
 ghost use Rattle.mpl_ast.specs.declared.program.Program.{Program};
 ghost use Rattle.mpl_ast.specs.declared.token.Token.{Token};
-ghost use Rattle.mpl_grammar.specs.Fits.{FaultFits};
-ghost use Rattle.mpl_grammar.specs.Machine.{fault};
 ghost use Rattle.mpl_mean.specs.Text.Begins.{weight_behind};
 ghost use Rattle.mpl_mean.specs.Text.ProgramText.{spells};
 ghost use Rattle.mpl_mean.specs.Text.Weight.{weights};
-
-/// The machine finds the fault that the tokens have. Where it finds none, they are those of a program that is
-/// nowhere too deep.
-pub fn first_fault_is_theirs()
-    ensures { (tokens : List Token) (end : ℕ) → FaultFits tokens end (fault end tokens []) }
-{}
 
 /// A program has a weight for each of its tokens.
 pub fn tokens_have_a_weight_each()

@@ -2,13 +2,14 @@
 //! says of the programs that have the tokens.
 #![tactic(auto)]
 
+mod faults;
 mod kinds;
 mod laws;
 mod pending;
 mod step;
-pub mod symbol;
+mod symbol;
 mod table;
 mod worked;
 
-pub use laws::{first_fault_is_theirs, tokens_have_a_weight_each, weights_look_back};
-pub use worked::{depth_has_its_place, faults_have_their_places, forms_are_taken};
+pub use faults::{Fault, first_fault};
+pub use laws::{tokens_have_a_weight_each, weights_look_back};

@@ -1,6 +1,8 @@
 ghost use Rattle.std.specs.Prelude.{◌≡◌, ℕ, ◌+◌, ◌<◌, ◌≤◌, ◌^◌, [], ◌∷◌, ◌++◌, true, if◌then◌else◌, IfOk, OnOk, OnErr, MatchOption, None, Some};
-ghost use Rattle.mpl_grammar.specs.Machine as machine;
-ghost use Rattle.mpl_grammar.specs.Taking.{WasTaken};
+ghost use Rattle.std.specs.List.{list_all};
+ghost use Rattle.mpl_grammar.specs.Internal.Grammar as grammar;
+ghost use Rattle.mpl_grammar.specs.Internal.Machine as machine;
+ghost use Rattle.mpl_grammar.specs.Internal.Taking.{WasTaken};
 
 use crate::symbol::Symbol;
 use mpl_value::NoMemory;
@@ -20,7 +22,7 @@ impl Model for Pending {
     ghost use Rattle.std.specs.Coded.{codes};
     ghost use Rattle.mpl_grammar.specs.declared.symbol.Symbol.{Symbol};
     ghost use Rattle.mpl_grammar.specs.contracts.symbol.Symbol as symbol;
-    ghost use Rattle.mpl_grammar.specs.Machine as machine;
+    ghost use Rattle.mpl_grammar.specs.Internal.Machine as machine;
 
     ghost Value = { List Symbol };
 
@@ -65,6 +67,13 @@ impl Pending {
         ensures { result ≡ machine.weight self.now }
     {
         self.total
+    }
+
+    /// Nothing more has to come.
+    pub fn may_end(&self) -> bool
+        ensures { result ≡ list_all grammar.may_end self.now }
+    {
+        self.symbols.iter().all(|symbol| symbol.may_end())
     }
 
     /// One symbol more, which is the next.

@@ -1,8 +1,8 @@
 //! One token's step of the machine.
 ghost use Rattle.std.specs.Prelude.{◌≡◌, ◌≤◌, Some, None, IfOk, if◌then◌else◌};
-ghost use Rattle.mpl_grammar.specs.Grammar as grammar;
-ghost use Rattle.mpl_grammar.specs.Machine as machine;
-ghost use Rattle.mpl_grammar.specs.Taking.{WasTaken};
+ghost use Rattle.mpl_grammar.specs.Internal.Machine as machine;
+ghost use Rattle.mpl_grammar.specs.Internal.Taking.{WasTaken};
+ghost use Rattle.mpl_mean.specs.Limits.{most_weight};
 
 use crate::kinds::{is_keyword, is_mark, is_name, is_number, is_operator, is_type};
 use crate::pending::Pending;
@@ -10,41 +10,10 @@ use crate::symbol::Symbol;
 use mpl_ast::token::{Keyword, Mark, TokenKind};
 use mpl_value::NoMemory;
 
-/// It may be over before a token that it doesn't take.
-pub fn may_end(symbol: Symbol) -> bool
-    ensures { result ≡ grammar.may_end symbol }
-{
-    match symbol {
-        Symbol::DimensionIfAny
-        | Symbol::MoreNames
-        | Symbol::FormalsIfAny
-        | Symbol::MoreFormals
-        | Symbol::GuardIfAny
-        | Symbol::DeclaratorEnd
-        | Symbol::MoreDeclarators
-        | Symbol::ElseIfAny
-        | Symbol::WordEnd
-        | Symbol::ForStart
-        | Symbol::ForStep
-        | Symbol::FlowOwn
-        | Symbol::FlowName
-        | Symbol::FlowField
-        | Symbol::FlowsIfAny
-        | Symbol::MoreFlows
-        | Symbol::ExpressionIfAny
-        | Symbol::ExpressionsIfAny
-        | Symbol::MoreExpressions
-        | Symbol::Operators(_)
-        | Symbol::OperandName
-        | Symbol::ElementIfAny => true,
-        _ => false,
-    }
-}
-
 impl Pending {
     /// The token, where the symbol that was the next takes it. It says whether it does.
     pub fn take(&mut self, symbol: Symbol, kind: &TokenKind) -> Result<bool, NoMemory>
-        requires { machine.heavier symbol (machine.weight self.old) ≤ 64 }
+        requires { machine.heavier symbol (machine.weight self.old) ≤ most_weight }
         ensures { IfOk result (λ taken. WasTaken (machine.takes symbol kind.now) taken self.old self.new) }
     {
         match symbol {
@@ -174,20 +143,17 @@ impl Pending {
     /// One token. It says whether it may come; what is to come then is what is to come behind it.
     #[tactic(auto, using(crate::proofs::Stepping::goes_taken, crate::proofs::Stepping::goes_over, crate::proofs::Stepping::goes_nowhere, crate::proofs::Stepping::goes_declared, crate::proofs::Stepping::light_below))]
     pub fn step(&mut self, kind: &TokenKind) -> Result<bool, NoMemory>
-        requires { machine.weight self.old ≤ 64 }
+        requires { machine.weight self.old ≤ most_weight }
         ensures { IfOk result (λ goes. machine.next self.old kind.now ≡ (if goes then Some self.new else None)) }
     {
-        match self.pop() {
-            None => self.take_declaration(kind),
-            Some(symbol) => {
-                if self.take(symbol, kind)? {
-                    Ok(true)
-                } else if may_end(symbol) {
-                    self.step(kind)
-                } else {
-                    Ok(false)
-                }
+        while let Some(symbol) = self.pop() {
+            if self.take(symbol, kind)? {
+                return Ok(true);
+            }
+            if !symbol.may_end() {
+                return Ok(false);
             }
         }
+        self.take_declaration(kind)
     }
 }

@@ -1,3 +1,6 @@
+ghost use Rattle.std.specs.Prelude.{◌≡◌};
+ghost use Rattle.mpl_grammar.specs.Internal.Grammar as grammar;
+
 /// What is still to come in a program, one piece of the grammar for each place at which its tokens can stand.
 #[derive(Clone, Copy, Debug, PartialEq, Eq)]
 pub enum Symbol {
@@ -72,4 +75,37 @@ pub enum Symbol {
     Operators(u32),
     OperandName,
     ElementIfAny,
+}
+
+impl Symbol {
+    /// It may be over before a token that it doesn't take.
+    pub fn may_end(self) -> bool
+        ensures { result ≡ grammar.may_end self }
+    {
+        match self {
+            Symbol::DimensionIfAny
+            | Symbol::MoreNames
+            | Symbol::FormalsIfAny
+            | Symbol::MoreFormals
+            | Symbol::GuardIfAny
+            | Symbol::DeclaratorEnd
+            | Symbol::MoreDeclarators
+            | Symbol::ElseIfAny
+            | Symbol::WordEnd
+            | Symbol::ForStart
+            | Symbol::ForStep
+            | Symbol::FlowOwn
+            | Symbol::FlowName
+            | Symbol::FlowField
+            | Symbol::FlowsIfAny
+            | Symbol::MoreFlows
+            | Symbol::ExpressionIfAny
+            | Symbol::ExpressionsIfAny
+            | Symbol::MoreExpressions
+            | Symbol::Operators(_)
+            | Symbol::OperandName
+            | Symbol::ElementIfAny => true,
+            _ => false,
+        }
+    }
 }

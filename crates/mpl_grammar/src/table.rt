@@ -1,8 +1,9 @@
 //! The table of the grammar: what each token leads to.
 ghost use Rattle.std.specs.Prelude.{◌≡◌, ◌+◌, ◌≤◌, ◌<◌, ◌^◌, IfOk};
-ghost use Rattle.mpl_grammar.specs.Grammar as grammar;
-ghost use Rattle.mpl_grammar.specs.Machine as machine;
-ghost use Rattle.mpl_grammar.specs.Taking.{WasTaken};
+ghost use Rattle.mpl_grammar.specs.Internal.Grammar as grammar;
+ghost use Rattle.mpl_grammar.specs.Internal.Machine as machine;
+ghost use Rattle.mpl_grammar.specs.Internal.Taking.{WasTaken};
+ghost use Rattle.mpl_mean.specs.Limits.{most_weight};
 ghost use Rattle.mpl_grammar.specs.declared.symbol.Symbol.TheVariants as symbols;
 
 use crate::kinds::{
@@ -16,7 +17,7 @@ use mpl_value::NoMemory;
 
 impl Pending {
     pub fn take_fields(&mut self, kind: &TokenKind) -> Result<bool, NoMemory>
-        requires { machine.weight self.old ≤ 64 }
+        requires { machine.weight self.old ≤ most_weight }
         ensures { IfOk result (λ taken. WasTaken (machine.takes symbols.Fields kind.now) taken self.old self.new) }
     {
         if is_mark(kind, Mark::CloseBrace) {
@@ -35,7 +36,7 @@ impl Pending {
     }
 
     pub fn take_items(&mut self, kind: &TokenKind) -> Result<bool, NoMemory>
-        requires { machine.weight self.old ≤ 64 }
+        requires { machine.weight self.old ≤ most_weight }
         ensures { IfOk result (λ taken. WasTaken (machine.takes symbols.Items kind.now) taken self.old self.new) }
     {
         if is_mark(kind, Mark::CloseBrace) {
@@ -61,7 +62,7 @@ impl Pending {
     }
 
     pub fn take_entries(&mut self, kind: &TokenKind) -> Result<bool, NoMemory>
-        requires { machine.weight self.old ≤ 64 }
+        requires { machine.weight self.old ≤ most_weight }
         ensures { IfOk result (λ taken. WasTaken (machine.takes symbols.Entries kind.now) taken self.old self.new) }
     {
         if is_mark(kind, Mark::CloseBrace) {
@@ -82,7 +83,7 @@ impl Pending {
     }
 
     pub fn take_behind_item_name(&mut self, kind: &TokenKind) -> Result<bool, NoMemory>
-        requires { machine.weight self.old ≤ 64 }
+        requires { machine.weight self.old ≤ most_weight }
         ensures { IfOk result (λ taken. WasTaken (machine.takes symbols.BehindItemName kind.now) taken self.old self.new) }
     {
         if is_mark(kind, Mark::OpenParenthesis) {
@@ -113,7 +114,7 @@ impl Pending {
     }
 
     pub fn take_block_rest(&mut self, kind: &TokenKind) -> Result<bool, NoMemory>
-        requires { machine.weight self.old ≤ 64 }
+        requires { machine.weight self.old ≤ most_weight }
         ensures { IfOk result (λ taken. WasTaken (machine.takes symbols.BlockRest kind.now) taken self.old self.new) }
     {
         if is_mark(kind, Mark::CloseBrace) {
@@ -177,7 +178,7 @@ impl Pending {
     }
 
     pub fn take_statement(&mut self, kind: &TokenKind) -> Result<bool, NoMemory>
-        requires { machine.weight self.old ≤ 64 }
+        requires { machine.weight self.old ≤ most_weight }
         ensures { IfOk result (λ taken. WasTaken (machine.takes symbols.AStatement kind.now) taken self.old self.new) }
     {
         if is_mark(kind, Mark::OpenBrace) {
@@ -218,7 +219,7 @@ impl Pending {
     }
 
     pub fn take_statement_name(&mut self, kind: &TokenKind) -> Result<bool, NoMemory>
-        requires { machine.weight self.old ≤ 64 }
+        requires { machine.weight self.old ≤ most_weight }
         ensures { IfOk result (λ taken. WasTaken (machine.takes symbols.StatementName kind.now) taken self.old self.new) }
     {
         if is_name(kind) {
@@ -245,7 +246,7 @@ impl Pending {
     }
 
     pub fn take_statement_dot(&mut self, kind: &TokenKind) -> Result<bool, NoMemory>
-        requires { machine.weight self.old ≤ 64 }
+        requires { machine.weight self.old ≤ most_weight }
         ensures { IfOk result (λ taken. WasTaken (machine.takes symbols.StatementDot kind.now) taken self.old self.new) }
     {
         if is_name(kind) {
@@ -258,7 +259,7 @@ impl Pending {
     }
 
     pub fn take_statement_field(&mut self, kind: &TokenKind) -> Result<bool, NoMemory>
-        requires { machine.weight self.old ≤ 64 }
+        requires { machine.weight self.old ≤ most_weight }
         ensures { IfOk result (λ taken. WasTaken (machine.takes symbols.StatementField kind.now) taken self.old self.new) }
     {
         if is_mark(kind, Mark::OpenParenthesis) {
@@ -285,7 +286,7 @@ impl Pending {
     }
 
     pub fn take_statement_field_dot(&mut self, kind: &TokenKind) -> Result<bool, NoMemory>
-        requires { machine.weight self.old ≤ 64 }
+        requires { machine.weight self.old ≤ most_weight }
         ensures { IfOk result (λ taken. WasTaken (machine.takes symbols.StatementFieldDot kind.now) taken self.old self.new) }
     {
         if is_name(kind) {
@@ -298,7 +299,7 @@ impl Pending {
     }
 
     pub fn take_declarator_end(&mut self, kind: &TokenKind) -> Result<bool, NoMemory>
-        requires { machine.weight self.old ≤ 64 }
+        requires { machine.weight self.old ≤ most_weight }
         ensures { IfOk result (λ taken. WasTaken (machine.takes symbols.DeclaratorEnd kind.now) taken self.old self.new) }
     {
         if is_mark(kind, Mark::OpenBracket) {
@@ -311,7 +312,7 @@ impl Pending {
     }
 
     pub fn take_for_start(&mut self, kind: &TokenKind) -> Result<bool, NoMemory>
-        requires { machine.weight self.old ≤ 64 }
+        requires { machine.weight self.old ≤ most_weight }
         ensures { IfOk result (λ taken. WasTaken (machine.takes symbols.ForStart kind.now) taken self.old self.new) }
     {
         if is_basic_type(kind) {
@@ -328,7 +329,7 @@ impl Pending {
     }
 
     pub fn take_for_name(&mut self, kind: &TokenKind) -> Result<bool, NoMemory>
-        requires { machine.weight self.old ≤ 64 }
+        requires { machine.weight self.old ≤ most_weight }
         ensures { IfOk result (λ taken. WasTaken (machine.takes symbols.ForName kind.now) taken self.old self.new) }
     {
         if is_name(kind) {
@@ -350,7 +351,7 @@ impl Pending {
     }
 
     pub fn take_assigned_name(&mut self, kind: &TokenKind) -> Result<bool, NoMemory>
-        requires { machine.weight self.old ≤ 64 }
+        requires { machine.weight self.old ≤ most_weight }
         ensures { IfOk result (λ taken. WasTaken (machine.takes symbols.AssignedName kind.now) taken self.old self.new) }
     {
         if is_mark(kind, Mark::Dot) {
@@ -370,7 +371,7 @@ impl Pending {
     }
 
     pub fn take_assigned_field(&mut self, kind: &TokenKind) -> Result<bool, NoMemory>
-        requires { machine.weight self.old ≤ 64 }
+        requires { machine.weight self.old ≤ most_weight }
         ensures { IfOk result (λ taken. WasTaken (machine.takes symbols.AssignedField kind.now) taken self.old self.new) }
     {
         if is_mark(kind, Mark::Assign) {
@@ -388,7 +389,7 @@ impl Pending {
     }
 
     pub fn take_flow(&mut self, kind: &TokenKind) -> Result<bool, NoMemory>
-        requires { machine.weight self.old ≤ 64 }
+        requires { machine.weight self.old ≤ most_weight }
         ensures { IfOk result (λ taken. WasTaken (machine.takes symbols.AFlow kind.now) taken self.old self.new) }
     {
         if is_name(kind) {
@@ -413,7 +414,7 @@ impl Pending {
     }
 
     pub fn take_flow_own(&mut self, kind: &TokenKind) -> Result<bool, NoMemory>
-        requires { machine.weight self.old ≤ 64 }
+        requires { machine.weight self.old ≤ most_weight }
         ensures { IfOk result (λ taken. WasTaken (machine.takes symbols.FlowOwn kind.now) taken self.old self.new) }
     {
         if is_mark(kind, Mark::Dot) {
@@ -426,7 +427,7 @@ impl Pending {
     }
 
     pub fn take_flow_name(&mut self, kind: &TokenKind) -> Result<bool, NoMemory>
-        requires { machine.weight self.old ≤ 64 }
+        requires { machine.weight self.old ≤ most_weight }
         ensures { IfOk result (λ taken. WasTaken (machine.takes symbols.FlowName kind.now) taken self.old self.new) }
     {
         if is_mark(kind, Mark::OpenParenthesis) {
@@ -451,7 +452,7 @@ impl Pending {
     }
 
     pub fn take_flow_field(&mut self, kind: &TokenKind) -> Result<bool, NoMemory>
-        requires { machine.weight self.old ≤ 64 }
+        requires { machine.weight self.old ≤ most_weight }
         ensures { IfOk result (λ taken. WasTaken (machine.takes symbols.FlowField kind.now) taken self.old self.new) }
     {
         if is_mark(kind, Mark::OpenParenthesis) {
@@ -472,7 +473,7 @@ impl Pending {
     }
 
     pub fn take_flows(&mut self, kind: &TokenKind) -> Result<bool, NoMemory>
-        requires { machine.weight self.old ≤ 64 }
+        requires { machine.weight self.old ≤ most_weight }
         ensures { IfOk result (λ taken. WasTaken (machine.takes symbols.FlowsIfAny kind.now) taken self.old self.new) }
     {
         if is_name(kind) {
@@ -498,7 +499,7 @@ impl Pending {
     }
 
     pub fn take_expression_if_any(&mut self, kind: &TokenKind) -> Result<bool, NoMemory>
-        requires { machine.weight self.old ≤ 64 }
+        requires { machine.weight self.old ≤ most_weight }
         ensures { IfOk result (λ taken. WasTaken (machine.takes symbols.ExpressionIfAny kind.now) taken self.old self.new) }
     {
         if is_name(kind) {
@@ -523,7 +524,7 @@ impl Pending {
     }
 
     pub fn take_expressions(&mut self, kind: &TokenKind) -> Result<bool, NoMemory>
-        requires { machine.weight self.old ≤ 64 }
+        requires { machine.weight self.old ≤ most_weight }
         ensures { IfOk result (λ taken. WasTaken (machine.takes symbols.ExpressionsIfAny kind.now) taken self.old self.new) }
     {
         if is_name(kind) {
@@ -557,7 +558,7 @@ impl Pending {
     }
 
     pub fn take_operand_name(&mut self, kind: &TokenKind) -> Result<bool, NoMemory>
-        requires { machine.weight self.old ≤ 64 }
+        requires { machine.weight self.old ≤ most_weight }
         ensures { IfOk result (λ taken. WasTaken (machine.takes symbols.OperandName kind.now) taken self.old self.new) }
     {
         if is_mark(kind, Mark::OpenParenthesis) {
@@ -572,7 +573,7 @@ impl Pending {
     }
 
     pub fn take_operand(&mut self, operators: u32, kind: &TokenKind) -> Result<bool, NoMemory>
-        requires { machine.weight self.old + operators ≤ 64 }
+        requires { machine.weight self.old + operators ≤ most_weight }
         ensures { IfOk result (λ taken. WasTaken (machine.takes (symbols.Operand operators) kind.now) taken self.old self.new) }
     {
         if is_name(kind) {
@@ -598,7 +599,7 @@ impl Pending {
 
     /// A token between two declarations.
     pub fn take_declaration(&mut self, kind: &TokenKind) -> Result<bool, NoMemory>
-        requires { machine.weight self.old ≤ 64 }
+        requires { machine.weight self.old ≤ most_weight }
         ensures { IfOk result (λ taken. WasTaken (machine.found grammar.declaration_rows kind.now) taken self.old self.new) }
     {
         if is_keyword(kind, Keyword::Struct) {

@@ -1,7 +1,7 @@
 //! Sources, and where each has its first fault.
 ghost use Rattle.std.specs.Prelude.{◌≡◌, ◌++◌, codes, replicate, None, Some};
-ghost use Rattle.mpl_grammar.specs.Machine.{Syntax, TooDeep};
-ghost use Rattle.mpl_grammar.specs.Sources.{first_fault};
+ghost use Rattle.mpl_grammar.specs.declared.faults.Fault.TheVariants.{Syntax, TooDeep};
+ghost use Rattle.mpl_grammar.specs.Internal.Sources.{first_fault};
 
 /// A token that may not come, and an end that comes too early.
 pub fn faults_have_their_places()

@@ -5,6 +5,13 @@ use Rattle.mpl_ast.specs.declared.token.Token.{Token}
 use Rattle.mpl_mean.specs.Limits.{most_weight}
 use Rattle.mpl_mean.specs.Text.Begins.{Begins, IsLightFront, WeighsBehind}
 use Rattle.mpl_mean.specs.Text.ProgramText.{spells}
+use Rattle.mpl_mean.specs.Text.Weight.{is_light}
+
+-- some program has exactly these tokens, and they weigh no more than the limit
+pub record HasLightProgram (tokens : List Token) : Type 0 where
+  pub program : Program
+  pub spelled : spells program tokens ≡ true
+  pub light : is_light program ≡ true
 
 -- no program has exactly these tokens
 abbrev pub HasNoProgram : List Token → Type 0

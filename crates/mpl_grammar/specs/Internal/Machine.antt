@@ -4,7 +4,9 @@ use Rattle.std.specs.List.{list_all}
 use Rattle.mpl_ast.specs.declared.token.Token.{Token}
 use Rattle.mpl_ast.specs.declared.token.TokenKind.{TokenKind}
 use Rattle.mpl_mean.specs.Limits.{most_weight}
-use Rattle.mpl_grammar.specs.Grammar.{Row, Stack, declaration_rows, may_end, rows}
+use Rattle.mpl_grammar.specs.Internal.Grammar.{Row, Stack, declaration_rows, may_end, rows}
+use Rattle.mpl_grammar.specs.declared.faults.Fault.{Fault}
+use Rattle.mpl_grammar.specs.declared.faults.Fault.TheVariants.{Syntax, TooDeep}
 use Rattle.mpl_grammar.specs.declared.symbol.Symbol.{Symbol}
 use Rattle.mpl_grammar.specs.declared.symbol.Symbol.TheVariants.{CloseParenthesis, CloseBracket, Fields, Items, Entries, BlockRest, ElseIfAny, WordEnd, Operand, Operators}
 
@@ -78,10 +80,6 @@ weights_along Stuck = []
 weights_along (Weighs w t) = w ∷ weights_along t
 
 -- ---- the first fault
-
-pub data Fault : Type 0 where
-  Syntax : ℕ → Fault
-  TooDeep : ℕ → Fault
 
 abbrev pub behind : Option Stack → ℕ → (Stack → Option Fault) → Option Fault
 behind None at go = Some (Syntax at)

@@ -7,13 +7,16 @@ use Rattle.std.proofs.lemmas.Bool.{leb-false, leb-true}
 use Rattle.std.proofs.lemmas.List.Folds.{list_all-append}
 use Rattle.mpl_ast.specs.declared.program.Program.{Program}
 use Rattle.mpl_ast.specs.declared.token.Token.{Token}
+use Rattle.mpl_mean.specs.Limits.{most_weight}
 use Rattle.mpl_mean.specs.Text.Begins.{Begins, IsLightFront, WeighsBehind}
 use Rattle.mpl_mean.specs.Text.ParseFaults.{HasNoProgram}
 use Rattle.mpl_mean.specs.Text.ProgramText.{spells}
 use Rattle.mpl_mean.specs.Text.Weight.{weights}
-use Rattle.mpl_grammar.specs.Fits.{FaultFits}
-use Rattle.mpl_grammar.specs.Grammar.{Stack, may_end}
-use Rattle.mpl_grammar.specs.Machine.{Ends, Syntax, TooDeep, Trace, behind, fault, is_accepted, next, onward, trace, weight, weights_along}
+use Rattle.mpl_grammar.specs.Internal.Fits.{FaultFits}
+use Rattle.mpl_grammar.specs.Internal.Grammar.{Stack, may_end}
+use Rattle.mpl_grammar.specs.Internal.Machine.{Ends, Trace, behind, fault, is_accepted, next, onward, trace, weight, weights_along}
+use Rattle.mpl_grammar.specs.declared.faults.Fault.{Fault}
+use Rattle.mpl_grammar.specs.declared.faults.Fault.TheVariants.{Syntax, TooDeep}
 use Rattle.mpl_grammar.proofs.Accepted.{accepted-spelled}
 use Rattle.mpl_grammar.proofs.Completions.{completing, finishes}
 use Rattle.mpl_grammar.proofs.Growth.{next-grows}
@@ -38,8 +41,8 @@ nothing_behind (x ∷ xs) = ap (λ ys. x ∷ ys) (nothing_behind xs)
 record Reaches (front : List Token) (s : Stack) (ws : List ℕ) : Type 0 where
   along : (more : List Token) → trace (front ++ more) [] ≡ prepend ws (trace more s)
   counts : length ws ≡ length front
-  light : list_all (λ w. nat_le w 64) ws ≡ true
-  now : weight s ≤ 64
+  light : list_all (λ w. nat_le w most_weight) ws ≡ true
+  now : weight s ≤ most_weight
 
 record GoesOn (ws : List ℕ) (t : Trace) (p : Program) : Type 0 where
   accepted : is_accepted t ≡ true
@@ -65,7 +68,7 @@ light-reached front s ws r p more h =
     let g = goes-on front s ws r p more h in
     let front_weights : take (length front) (weights p) ≡ ws =
     ap (λ n. take n (weights p)) (sym r.counts) ∙ ap (take (length ws)) g.weighs ∙ take-append_seam ws (weights_along (trace more s)) in
-    ap (list_all (λ w. nat_le w 64)) front_weights ∙ r.light
+    ap (list_all (λ w. nat_le w most_weight)) front_weights ∙ r.light
 
 -- ---- one token more
 
@@ -87,22 +90,22 @@ along-next front s ws r t z h more =
     ∙ sym (prepend-append ws (weight z ∷ []) (trace more z))
 
 abbrev all_light : List ℕ → Bool
-all_light = list_all (λ w. nat_le w 64)
+all_light = list_all (λ w. nat_le w most_weight)
 
-light-more : (ws : List ℕ) (w : ℕ) → all_light ws ≡ true → nat_le w 64 ≡ true → all_light (ws ++ w ∷ []) ≡ true
-light-more ws w h e = list_all-append (λ w. nat_le w 64) ws (w ∷ []) ∙ ap (λ b. b && (nat_le w 64 && true)) h ∙ ap (λ b. b && true) e
+light-more : (ws : List ℕ) (w : ℕ) → all_light ws ≡ true → nat_le w most_weight ≡ true → all_light (ws ++ w ∷ []) ≡ true
+light-more ws w h e = list_all-append (λ w. nat_le w most_weight) ws (w ∷ []) ∙ ap (λ b. b && (nat_le w most_weight && true)) h ∙ ap (λ b. b && true) e
 
-reaches-next : (front : List Token) (s : Stack) (ws : List ℕ) → Reaches front s ws → (t : Token) (z : Stack) → next s t.kind ≡ Some z → nat_le (weight z) 64 ≡ true → Reaches (front ++ t ∷ []) z (ws ++ weight z ∷ [])
+reaches-next : (front : List Token) (s : Stack) (ws : List ℕ) → Reaches front s ws → (t : Token) (z : Stack) → next s t.kind ≡ Some z → nat_le (weight z) most_weight ≡ true → Reaches (front ++ t ∷ []) z (ws ++ weight z ∷ [])
 reaches-next front s ws r t z h e = record {
   along = along-next front s ws r t z h;
   counts = length-append ws (weight z ∷ []) ∙ ap (λ n. n + 1) r.counts ∙ sym (length-append front (t ∷ []));
   light = light-more ws (weight z) r.light e;
-  now = leb-true (weight z) 64 e;
+  now = leb-true (weight z) most_weight e;
 }
 
--- the weight above 64 is 65
-too_heavy : (s z : Stack) → weight s ≤ 64 → weight z ≤ weight s + 1 → nat_le (weight z) 64 ≡ false → weight z ≡ 65
-too_heavy s z h g e = let above = leb-false (weight z) 64 e in omega arith
+-- the weight above the limit is the next one
+too_heavy : (s z : Stack) → weight s ≤ most_weight → weight z ≤ weight s + 1 → nat_le (weight z) most_weight ≡ false → weight z ≡ most_weight + 1
+too_heavy s z h g e = let above = leb-false (weight z) most_weight e in omega arith
 
 begins-next : (front : List Token) (s : Stack) (ws : List ℕ) → Reaches front s ws → (t : Token) (z : Stack) → next s t.kind ≡ Some z → Begins (front ++ t ∷ [])
 begins-next front s ws r t z h =
@@ -114,7 +117,7 @@ get-seam : (ws : List ℕ) (w : ℕ) (vs : List ℕ) → slice_get (ws ++ w ∷ 
 get-seam [] w vs = refl
 get-seam (x ∷ ws) w vs = get-seam ws w vs
 
-heavy-next : (front : List Token) (s : Stack) (ws : List ℕ) → Reaches front s ws → (t : Token) (z : Stack) → next s t.kind ≡ Some z → weight z ≡ 65 → WeighsBehind front t 65
+heavy-next : (front : List Token) (s : Stack) (ws : List ℕ) → Reaches front s ws → (t : Token) (z : Stack) → next s t.kind ≡ Some z → weight z ≡ most_weight + 1 → WeighsBehind front t (most_weight + 1)
 heavy-next front s ws r t z h e p more spelled =
     let g = goes-on front s ws r p (t ∷ more) spelled in
     let first : weights p ≡ ws ++ weight z ∷ weights_along (trace more z) = g.weighs ∙ ap (λ o. ws ++ weights_along (onward (trace more) o)) h in
@@ -142,7 +145,7 @@ at_end end front s ws r false e tokens w =
       none = subst HasNoProgram (sym w) no_program;
     }
 
-weighed : (end : ℕ) (front : List Token) (s : Stack) (ws : List ℕ) → Reaches front s ws → (t : Token) (ts tokens : List Token) → tokens ≡ front ++ t ∷ ts → (z : Stack) → next s t.kind ≡ Some z → (b : Bool) → nat_le (weight z) 64 ≡ b
+weighed : (end : ℕ) (front : List Token) (s : Stack) (ws : List ℕ) → Reaches front s ws → (t : Token) (ts tokens : List Token) → tokens ≡ front ++ t ∷ ts → (z : Stack) → next s t.kind ≡ Some z → (b : Bool) → nat_le (weight z) most_weight ≡ b
     → (b ≡ true → FaultFits tokens end (fault end ts z)) → FaultFits tokens end (if b then fault end ts z else Some (TooDeep t.span.from))
 weighed end front s ws r t ts tokens w z h true e later = later refl
 weighed end front s ws r t ts tokens w z h false e later = record {
@@ -157,7 +160,7 @@ weighed end front s ws r t ts tokens w z h false e later = record {
 }
 
 stepped : (end : ℕ) (front : List Token) (s : Stack) (ws : List ℕ) → Reaches front s ws → (t : Token) (ts tokens : List Token) → tokens ≡ front ++ t ∷ ts → (o : Option Stack) → next s t.kind ≡ o
-    → ((z : Stack) → o ≡ Some z → nat_le (weight z) 64 ≡ true → FaultFits tokens end (fault end ts z)) → FaultFits tokens end (behind o t.span.from (fault end ts))
+    → ((z : Stack) → o ≡ Some z → nat_le (weight z) most_weight ≡ true → FaultFits tokens end (fault end ts z)) → FaultFits tokens end (behind o t.span.from (fault end ts))
 stepped end front s ws r t ts tokens w None e later = record {
   front = front;
   rest = t ∷ ts;
@@ -168,7 +171,7 @@ stepped end front s ws r t ts tokens w None e later = record {
   no_further = further front s ws r t e;
   none = λ p h. accepted_next ts s t e (goes-on front s ws r p (t ∷ ts) (subst (λ us. spells p us ≡ true) w h)).accepted;
 }
-stepped end front s ws r t ts tokens w (Some z) e later = weighed end front s ws r t ts tokens w z e (nat_le (weight z) 64) refl (λ h. later z refl h)
+stepped end front s ws r t ts tokens w (Some z) e later = weighed end front s ws r t ts tokens w z e (nat_le (weight z) most_weight) refl (λ h. later z refl h)
 
 faults : (end : ℕ) (rest front : List Token) (s : Stack) (ws : List ℕ) → Reaches front s ws → (tokens : List Token) → tokens ≡ front ++ rest → FaultFits tokens end (fault end rest s)
 faults end [] front s ws r tokens w = at_end end front s ws r (list_all may_end s) refl tokens w
@@ -178,3 +181,8 @@ faults end (t ∷ ts) front s ws r tokens w =
 
 pub fault-fits : (tokens : List Token) (end : ℕ) → FaultFits tokens end (fault end tokens [])
 fault-fits tokens end = faults end tokens [] [] [] (record { along = λ more. refl; counts = refl; light = refl; now = omega arith }) tokens refl
+
+-- an answer that is the machine's
+pub answer-fits : {tokens all : List Token} {found other : Option Fault} (end : ℕ) → all ≡ tokens → found ≡ fault end all [] → found ≡ other → FaultFits tokens end other
+answer-fits {tokens = tokens} end same is there =
+    subst (FaultFits tokens end) (ap (λ ts. fault end ts []) (sym same) ∙ sym is ∙ there) (fault-fits tokens end)

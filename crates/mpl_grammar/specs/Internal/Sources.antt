@@ -2,7 +2,8 @@
 use Rattle.std.specs.Prelude.{ℕ, List, [], length, Option, None, Ok, Err, Result}
 use Rattle.mpl_ast.specs.declared.token.Token.{Token}
 use Rattle.mpl_mean.specs.Text.Lexemes.{LexicalFault, tokens_of}
-use Rattle.mpl_grammar.specs.Machine.{Fault, fault}
+use Rattle.mpl_grammar.specs.Internal.Machine.{fault}
+use Rattle.mpl_grammar.specs.declared.faults.Fault.{Fault}
 
 abbrev pub first_fault : List ℕ → Option Fault
 first_fault source = of_tokens (tokens_of source) where

@@ -3,7 +3,7 @@ use Rattle.std.specs.Prelude.{ℕ, suc, Bool, true, false, List, [], ◌∷◌, 
 use Rattle.mpl_ast.specs.declared.token.Keyword.TheVariants as word
 use Rattle.mpl_ast.specs.declared.token.Mark.TheVariants as m
 use Rattle.mpl_ast.specs.declared.token.TokenKind.{TokenKind}
-use Rattle.mpl_grammar.specs.Kinds.{is_access, is_any_name, is_any_number, is_basic_type, is_constant, is_kind, is_operator, is_type, is_unary}
+use Rattle.mpl_grammar.specs.Internal.Kinds.{is_access, is_any_name, is_any_number, is_basic_type, is_constant, is_kind, is_operator, is_type, is_unary}
 use Rattle.mpl_grammar.specs.declared.symbol.Symbol.{Symbol}
 use Rattle.mpl_grammar.specs.declared.symbol.Symbol.TheVariants.{AName, ANumber, AType, Semicolon, Colon, Dot, Assign, MentatWord, ClassWord, AcceptWord, CloseParenthesis, CloseBracket, OpenFields, OpenItems, OpenEntries, OpenFormals, OpenTest, OpenFor, OpenPrint, OpenFlow, OpenFlows, OpenNothing, ABlock, Fields, Items, Entries, BehindItemName, DimensionIfAny, MoreNames, FormalsIfAny, MoreFormals, GuardIfAny, BlockRest, AStatement, StatementName, StatementDot, StatementField, StatementFieldDot, DeclaratorEnd, MoreDeclarators, ElseIfAny, WordEnd, ForStart, ForName, ForStep, AssignedName, AssignedField, AFlow, FlowOwn, FlowName, FlowField, FlowsIfAny, MoreFlows, ExpressionIfAny, ExpressionsIfAny, MoreExpressions, Operand, Operators, OperandName, ElementIfAny}
 use Rattle.mpl_mean.specs.Text.Reading.{is_keyword, is_mark}

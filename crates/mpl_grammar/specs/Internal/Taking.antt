@@ -1,6 +1,6 @@
 -- What taking a token, or leaving it, does to what is still to come.
 use Rattle.std.specs.Prelude.{◌≡◌, Bool, true, false, ◌++◌, Option, Some, None}
-use Rattle.mpl_grammar.specs.Grammar.{Stack}
+use Rattle.mpl_grammar.specs.Internal.Grammar.{Stack}
 
 -- a row's symbols stand before what was to come, where the token was taken; else nothing has changed
 abbrev pub WasTaken : Option Stack → Bool → Stack → Stack → Type 0
