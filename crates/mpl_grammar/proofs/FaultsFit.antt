@@ -75,7 +75,7 @@ light-reached front s ws r p more h =
 accepted_next : (ts : List Token) (s : Stack) (t : Token) → next s t.kind ≡ None → is_accepted (trace (t ∷ ts) s) ≡ true → ⊥
 accepted_next ts s t h a = let stuck = ap (λ o. is_accepted (onward (trace ts) o)) h in absurd cc
 
-one_more : {A : Type 0} (xs : List A) (x : A) (ys : List A) → (xs ++ x ∷ []) ++ ys ≡ xs ++ x ∷ ys
+pub one_more : {A : Type 0} (xs : List A) (x : A) (ys : List A) → (xs ++ x ∷ []) ++ ys ≡ xs ++ x ∷ ys
 one_more xs x ys = append_assoc xs (x ∷ []) ys
 
 further : (front : List Token) (s : Stack) (ws : List ℕ) → Reaches front s ws → (t : Token) → next s t.kind ≡ None → ¬ Begins (front ++ t ∷ [])

@@ -22,3 +22,4 @@ pub mod FaultsFit
 pub mod WeightLaws
 pub mod Stepping
 pub mod Behind
+pub mod OneFault

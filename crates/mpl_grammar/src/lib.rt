@@ -12,4 +12,4 @@ mod table;
 mod worked;
 
 pub use faults::{Fault, first_fault};
-pub use laws::{tokens_have_a_weight_each, weights_look_back};
+pub use laws::{faults_exclude_one_another, tokens_have_a_weight_each, weights_look_back};
