@@ -11,4 +11,5 @@ mod Allowance
 mod InPlace
 pub mod Truth
 pub mod Lists
+pub mod ExpressionInduction
 mod NeverWaits

@@ -1,4 +1,5 @@
 pub mod Limits
+pub mod Levels
 pub mod Text
 pub mod TypeRules
 pub mod Meaning

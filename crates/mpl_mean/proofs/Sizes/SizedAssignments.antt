@@ -5,7 +5,7 @@ use Rattle.mpl_ast.specs.declared.expression.Conjunction.{Conjunction}
 use Rattle.mpl_ast.specs.declared.expression.Conjunction.TheOpen.{Place-F}
 use Rattle.mpl_ast.specs.declared.expression.Equality.{Equality}
 use Rattle.mpl_ast.specs.declared.expression.Expression.{Expression}
-use Rattle.mpl_ast.specs.declared.expression.Place.{Place, fold_out-Place, map-Place, out-Place}
+use Rattle.mpl_ast.specs.declared.expression.Place.{Place, out-Place}
 use Rattle.mpl_ast.specs.declared.expression.Primary.{Primary}
 use Rattle.mpl_ast.specs.declared.expression.Relation.{Relation}
 use Rattle.mpl_ast.specs.declared.expression.Sum.{Sum}
@@ -21,7 +21,7 @@ use Rattle.mpl_mean.specs.TypeRules.ExpressionRules.{can_be_indexed, is_one_valu
 use Rattle.mpl_mean.specs.Meaning.Layout.{Class, class_of_type, dimension_of, words_of}
 use Rattle.mpl_mean.specs.TypeRules.Nodes.{expr_nodes, place, target_nodes}
 use Rattle.mpl_mean.specs.TypeRules.Nodes as node
-use Rattle.mpl_mean.specs.TypeRules.Expr.{Expr, expr_of, expr_of_flow, expr_of_place}
+use Rattle.mpl_mean.specs.TypeRules.Expr.{Expr, expr_of, expr_of_flow, expr_of_forms, expr_of_place}
 use Rattle.mpl_mean.specs.TypeRules.Expr as expr
 use Rattle.mpl_mean.specs.Meaning.PlaceMeaning.{Location, index_of, put}
 use Rattle.mpl_mean.specs.Meaning.StatementMeaning.{Effect, assign_place, assign_location, assigns, at_location, create_at, new_object}
@@ -29,7 +29,7 @@ use Rattle.mpl_mean.specs.Meaning.Store.{Variable, ◌>>=◌, waits}
 use Rattle.mpl_mean.specs.TypeRules.Types.{Declared, OfBool, OfClass, OfInt, OfStruct, Shape, AnArray, ARegular, OneValue, ValueType, agree, shape_of}
 use Rattle.mpl_mean.specs.TypeRules.Typing.{target_shape, type_of, type_of_element, type_of_whole}
 use Rattle.mpl_mean.specs.Meaning.Values.{Value, word_of}
-use Rattle.mpl_mean.specs.FirstForms.ExpressionLevels.{expr_of_conjunction, expr_of_equality, expr_of_primary, expr_of_relation, expr_of_sum, expr_of_term, expr_of_unary}
+use Rattle.mpl_mean.proofs.ExpressionInduction.{place_of_parts, place_opens}
 use Rattle.mpl_mean.proofs.Sizes.SizedArguments.{ArgHas}
 use Rattle.mpl_mean.proofs.Sizes.SizedCallees.{class_at, class_there}
 use Rattle.mpl_mean.proofs.Sizes.SizedExpressionForms.{expression_means}
@@ -128,8 +128,7 @@ module _ (G : Frame) (S : Setting) (s : Sound G S) (blocks : List (List Declared
       (λ q. let j = h q.0.0 in let k = q.1 in (1, omega arith, field_base G.MayWait G.declarations G.state_words vs location.variable location.offset location.words n 1 location.is_whole (q.0.1).fits.base k))))
 
   abbrev expr_of_layer : Place-F Conjunction Equality Expression Place Primary Relation Sum Term Unary → Expr
-  expr_of_layer l =
-      expr.place_step (map-Place Conjunction Equality Expression Place Primary Relation Sum Term Unary Expr Expr Expr Expr Expr Expr Expr Expr Expr expr_of_conjunction expr_of_equality expr_of expr_of_place expr_of_primary expr_of_relation expr_of_sum expr_of_term expr_of_unary l)
+  expr_of_layer = place_of_parts expr_of_forms
 
   place_keeps : (l : Place-F Conjunction Equality Expression Place Primary Relation Sum Term Unary) (value : Arg)
       → Keeps G vs (Ready (expr_of_layer l) × Suits (expr_of_layer l) value) (Unit {0}) (λ _. Unit {0}) (assign_place (inside G S) l value)
@@ -154,8 +153,7 @@ module _ (G : Frame) (S : Setting) (s : Sound G S) (blocks : List (List Declared
       let h = environment G S blocks in
       let p = expr_of_place a.place in
       let q = expr_of_flow a.value in
-      let same : p ≡ expr_of_layer (out-Place a.place) =
-      fold_out-Place Expr Expr Expr Expr Expr Expr Expr Expr Expr expr.conjunction_step expr.equality_step expr.expression_step expr.place_step expr.primary_step expr.relation_step expr.sum_step expr.term_step expr.unary_step a.place in
+      let same : p ≡ expr_of_layer (out-Place a.place) = place_opens expr_of_forms a.place in
       so_keeps G vs (λ r. r) (λ b r e. tt)
       (then_keeps G vs (from_premise G vs (λ r. (r.0, every_right Right (expr_nodes h p) (expr_nodes h q) (r.1).1)) (flow_keeps G S s blocks vs a.value)) (λ value.
       from_premise G vs

@@ -25,7 +25,7 @@ use Rattle.mpl_ast.specs.declared.flow.Flow.{roll-Flow, fold-roll-Flow}
 use Rattle.mpl_ast.specs.declared.flow.Call.TheOpen.{Call-F, Flow-F}
 use Rattle.mpl_ast.specs.declared.place.At.{At}
 use Rattle.mpl_ast.specs.declared.place.Name.{Name}
-use Rattle.mpl_mean.specs.TypeRules.Expr.{Expr, listed, expr_of, expr_of_place, expr_of_flow, expr_of_call, conjunction_step, equality_step, expression_step, place_step, primary_step, relation_step, sum_step, term_step, unary_step}
+use Rattle.mpl_mean.specs.TypeRules.Expr.{Expr, listed, expr_of, expr_of_place, expr_of_flow, expr_of_call}
 use Rattle.mpl_mean.specs.TypeRules.Expr as expr
 use Rattle.mpl_mean.specs.FirstForms.ExpressionLevels.{expr_of_equality, expr_of_primary, expr_of_relation, expr_of_sum, expr_of_term, expr_of_unary}
 use Rattle.mpl_mean.proofs.SmallPrograms.Shown.{Shown, all_trees, all_seen, seen_each}

@@ -19,16 +19,16 @@ use Rattle.mpl_ast.specs.declared.flow.Flow.{Flow, fold-Flow, out-Flow}
 use Rattle.mpl_ast.specs.declared.flow.Call.TheOpen.{Call-F, Flow-F}
 use Rattle.mpl_ast.specs.declared.statement.Declarator.{Declarator}
 use Rattle.mpl_ast.specs.declared.statement.Declarator.TheVariants as declarator
-use Rattle.mpl_ast.specs.declared.expression.Expression.{Expression, fold-Expression}
-use Rattle.mpl_ast.specs.declared.expression.Conjunction.{Conjunction, fold-Conjunction}
-use Rattle.mpl_ast.specs.declared.expression.Equality.{Equality, fold-Equality}
-use Rattle.mpl_ast.specs.declared.expression.Relation.{Relation, fold-Relation}
-use Rattle.mpl_ast.specs.declared.expression.Sum.{Sum, fold-Sum}
-use Rattle.mpl_ast.specs.declared.expression.Term.{Term, fold-Term}
-use Rattle.mpl_ast.specs.declared.expression.Unary.{Unary, fold-Unary}
-use Rattle.mpl_ast.specs.declared.expression.Primary.{Primary, fold-Primary}
-use Rattle.mpl_ast.specs.declared.expression.Place.{Place, fold-Place}
-use Rattle.mpl_ast.specs.declared.expression.Conjunction.TheOpen.{Conjunction-F, Equality-F, Expression-F, Place-F, Primary-F, Relation-F, Sum-F, Term-F, Unary-F}
+use Rattle.mpl_ast.specs.declared.expression.Expression.{Expression}
+use Rattle.mpl_ast.specs.declared.expression.Conjunction.{Conjunction}
+use Rattle.mpl_ast.specs.declared.expression.Equality.{Equality}
+use Rattle.mpl_ast.specs.declared.expression.Relation.{Relation}
+use Rattle.mpl_ast.specs.declared.expression.Sum.{Sum}
+use Rattle.mpl_ast.specs.declared.expression.Term.{Term}
+use Rattle.mpl_ast.specs.declared.expression.Unary.{Unary}
+use Rattle.mpl_ast.specs.declared.expression.Primary.{Primary}
+use Rattle.mpl_ast.specs.declared.expression.Place.{Place}
+use Rattle.mpl_ast.specs.declared.expression.Conjunction.TheOpen.{Place-F, Primary-F}
 use Rattle.mpl_ast.specs.declared.expression.TermOperator.{TermOperator}
 use Rattle.mpl_ast.specs.declared.expression.TermOperator.TheVariants as term
 use Rattle.mpl_ast.specs.declared.program.Declaration.{Declaration}
@@ -39,39 +39,21 @@ use Rattle.mpl_ast.specs.declared.statement.Statement.{Statement, fold-Statement
 use Rattle.mpl_ast.specs.declared.statement.Statement.TheOpen.{Statement-F}
 use Rattle.mpl_ast.specs.declared.statement.TypeName.{TypeName}
 use Rattle.mpl_ast.specs.declared.statement.TypeName.TheVariants as type
-
-abbrev pub expression_step : Expression-F Bool Bool Bool Bool Bool Bool Bool Bool Bool → Bool
-expression_step (Expression-F.OneConjunction at conjunction) = conjunction
-expression_step (Expression-F.Or at line left right) = false
-
-abbrev pub conjunction_step : Conjunction-F Bool Bool Bool Bool Bool Bool Bool Bool Bool → Bool
-conjunction_step (Conjunction-F.OneEquality at equality) = equality
-conjunction_step (Conjunction-F.And at line left right) = false
-
-abbrev pub equality_step : Equality-F Bool Bool Bool Bool Bool Bool Bool Bool Bool → Bool
-equality_step (Equality-F.OneRelation at relation) = relation
-equality_step (Equality-F.Equate at line left operator right) = false
-
-abbrev pub relation_step : Relation-F Bool Bool Bool Bool Bool Bool Bool Bool Bool → Bool
-relation_step (Relation-F.OneSum at sum) = sum
-relation_step (Relation-F.Compare at line left operator right) = false
-
-abbrev pub sum_step : Sum-F Bool Bool Bool Bool Bool Bool Bool Bool Bool → Bool
-sum_step (Sum-F.OneTerm at term) = term
-sum_step (Sum-F.Add at line left operator right) = left && right
+use Rattle.mpl_mean.specs.Levels.{BinaryOperator, Or, And, Equate, Compare, Add, Multiply, Forms, expression_by, conjunction_by, equality_by, relation_by, sum_by, term_by, unary_by, primary_by, place_by}
 
 abbrev pub is_product : TermOperator → Bool
 is_product term.Times = true
 is_product term.Over = false
 is_product term.Modulo = false
 
-abbrev pub term_step : Term-F Bool Bool Bool Bool Bool Bool Bool Bool Bool → Bool
-term_step (Term-F.OneUnary at unary) = unary
-term_step (Term-F.Multiply at line left operator right) = left && is_product operator && right
-
-abbrev pub unary_step : Unary-F Bool Bool Bool Bool Bool Bool Bool Bool Bool → Bool
-unary_step (Unary-F.OnePrimary at primary) = primary
-unary_step (Unary-F.Apply at line operator operand) = false
+-- a sum, or a product, of parts of the first form
+abbrev pub is_first_binary : BinaryOperator → Bool → Bool → Bool
+is_first_binary Or left right = false
+is_first_binary And left right = false
+is_first_binary (Equate operator) left right = false
+is_first_binary (Compare operator) left right = false
+is_first_binary (Add operator) left right = left && right
+is_first_binary (Multiply operator) left right = left && is_product operator && right
 
 abbrev pub primary_step : Primary-F Bool Bool Bool Bool Bool Bool Bool Bool Bool → Bool
 primary_step (Primary-F.Number at value) = true
@@ -91,41 +73,41 @@ abbrev pub place_step : Place-F Bool Bool Bool Bool Bool Bool Bool Bool Bool →
 place_step (Place-F.Whole at target) = is_variable target
 place_step (Place-F.Element at line target index) = false
 
+abbrev pub is_first_of_forms : Forms Bool
+is_first_of_forms = record {
+  alone = λ at part. part;
+  binary = λ at line. is_first_binary;
+  unary = λ at line operator operand. false;
+  primary = primary_step;
+  place = place_step;
+}
+
 abbrev pub is_first_expression : Expression → Bool
-is_first_expression = fold-Expression Bool Bool Bool Bool Bool Bool Bool Bool Bool
-    conjunction_step equality_step expression_step place_step primary_step relation_step sum_step term_step unary_step
+is_first_expression = expression_by is_first_of_forms
 
 abbrev pub is_first_conjunction : Conjunction → Bool
-is_first_conjunction = fold-Conjunction Bool Bool Bool Bool Bool Bool Bool Bool Bool
-    conjunction_step equality_step expression_step place_step primary_step relation_step sum_step term_step unary_step
+is_first_conjunction = conjunction_by is_first_of_forms
 
 abbrev pub is_first_equality : Equality → Bool
-is_first_equality = fold-Equality Bool Bool Bool Bool Bool Bool Bool Bool Bool
-    conjunction_step equality_step expression_step place_step primary_step relation_step sum_step term_step unary_step
+is_first_equality = equality_by is_first_of_forms
 
 abbrev pub is_first_relation : Relation → Bool
-is_first_relation = fold-Relation Bool Bool Bool Bool Bool Bool Bool Bool Bool
-    conjunction_step equality_step expression_step place_step primary_step relation_step sum_step term_step unary_step
+is_first_relation = relation_by is_first_of_forms
 
 abbrev pub is_first_sum : Sum → Bool
-is_first_sum = fold-Sum Bool Bool Bool Bool Bool Bool Bool Bool Bool
-    conjunction_step equality_step expression_step place_step primary_step relation_step sum_step term_step unary_step
+is_first_sum = sum_by is_first_of_forms
 
 abbrev pub is_first_term : Term → Bool
-is_first_term = fold-Term Bool Bool Bool Bool Bool Bool Bool Bool Bool
-    conjunction_step equality_step expression_step place_step primary_step relation_step sum_step term_step unary_step
+is_first_term = term_by is_first_of_forms
 
 abbrev pub is_first_unary : Unary → Bool
-is_first_unary = fold-Unary Bool Bool Bool Bool Bool Bool Bool Bool Bool
-    conjunction_step equality_step expression_step place_step primary_step relation_step sum_step term_step unary_step
+is_first_unary = unary_by is_first_of_forms
 
 abbrev pub is_first_primary : Primary → Bool
-is_first_primary = fold-Primary Bool Bool Bool Bool Bool Bool Bool Bool Bool
-    conjunction_step equality_step expression_step place_step primary_step relation_step sum_step term_step unary_step
+is_first_primary = primary_by is_first_of_forms
 
 abbrev pub is_first_place : Place → Bool
-is_first_place = fold-Place Bool Bool Bool Bool Bool Bool Bool Bool Bool
-    conjunction_step equality_step expression_step place_step primary_step relation_step sum_step term_step unary_step
+is_first_place = place_by is_first_of_forms
 
 abbrev pub flow_step : Flow-F Bool Bool → Bool
 flow_step (Flow-F.OfCall at call) = false

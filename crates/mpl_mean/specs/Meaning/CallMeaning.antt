@@ -2,8 +2,8 @@
 use Rattle.std.specs.Prelude.{ℕ, ◌+◌, Bool, true, false, ◌||◌, List, [], ◌∷◌, ◌++◌, map, length, Option, Some, None, if◌then◌else◌, ℤ, pos}
 use Rattle.std.specs.FinMap.{get}
 use Rattle.std.specs.Ordering.{int_eq}
-use Rattle.mpl_ast.specs.declared.expression.Expression.{Expression, fold-Expression}
-use Rattle.mpl_ast.specs.declared.expression.Conjunction.TheOpen.{Conjunction-F, Equality-F, Expression-F, Place-F, Primary-F, Relation-F, Sum-F, Term-F, Unary-F}
+use Rattle.mpl_ast.specs.declared.expression.Expression.{Expression}
+use Rattle.mpl_ast.specs.declared.expression.Conjunction.TheOpen.{Place-F, Primary-F}
 use Rattle.mpl_ast.specs.declared.expression.Target.{Target}
 use Rattle.mpl_ast.specs.declared.expression.Target.TheVariants as target
 use Rattle.mpl_ast.specs.declared.flow.Call.{Call, fold-Call}
@@ -15,6 +15,7 @@ use Rattle.mpl_value.specs.declared.known.Known.{Known}
 use Rattle.mpl_value.specs.declared.known.Known.TheVariants as known
 use Rattle.mpl_value.specs.declared.known.Trap.{Trap}
 use Rattle.mpl_value.specs.declared.known.TrapKind.TheVariants.{Unbound}
+use Rattle.mpl_mean.specs.Levels.{Forms, expression_by}
 use Rattle.mpl_mean.specs.Meaning.Context.{Context}
 use Rattle.mpl_mean.specs.Meaning.ExpressionMeaning.{value_of}
 use Rattle.mpl_mean.specs.Meaning.Layout.{Class, Member, member_named, class_of_type}
@@ -28,34 +29,6 @@ use Rattle.mpl_value.specs.CallAnswers.{any_unknown, leftmost_trap, known_words,
 -- the name that an expression is, if it is one
 abbrev pub MayName : Type 0
 MayName = Option (List ℕ)
-
-abbrev pub name_of_expression : Expression-F MayName MayName MayName MayName MayName MayName MayName MayName MayName → MayName
-name_of_expression (Expression-F.OneConjunction at conjunction) = conjunction
-name_of_expression (Expression-F.Or at line left right) = None
-
-abbrev pub name_of_conjunction : Conjunction-F MayName MayName MayName MayName MayName MayName MayName MayName MayName → MayName
-name_of_conjunction (Conjunction-F.OneEquality at equality) = equality
-name_of_conjunction (Conjunction-F.And at line left right) = None
-
-abbrev pub name_of_equality : Equality-F MayName MayName MayName MayName MayName MayName MayName MayName MayName → MayName
-name_of_equality (Equality-F.OneRelation at relation) = relation
-name_of_equality (Equality-F.Equate at line left operator right) = None
-
-abbrev pub name_of_relation : Relation-F MayName MayName MayName MayName MayName MayName MayName MayName MayName → MayName
-name_of_relation (Relation-F.OneSum at sum) = sum
-name_of_relation (Relation-F.Compare at line left operator right) = None
-
-abbrev pub name_of_sum : Sum-F MayName MayName MayName MayName MayName MayName MayName MayName MayName → MayName
-name_of_sum (Sum-F.OneTerm at term) = term
-name_of_sum (Sum-F.Add at line left operator right) = None
-
-abbrev pub name_of_term : Term-F MayName MayName MayName MayName MayName MayName MayName MayName MayName → MayName
-name_of_term (Term-F.OneUnary at unary) = unary
-name_of_term (Term-F.Multiply at line left operator right) = None
-
-abbrev pub name_of_unary : Unary-F MayName MayName MayName MayName MayName MayName MayName MayName MayName → MayName
-name_of_unary (Unary-F.OnePrimary at primary) = primary
-name_of_unary (Unary-F.Apply at line operator operand) = None
 
 abbrev pub name_of_primary : Primary-F MayName MayName MayName MayName MayName MayName MayName MayName MayName → MayName
 name_of_primary (Primary-F.Number at value) = None
@@ -75,9 +48,17 @@ abbrev pub name_of_place : Place-F MayName MayName MayName MayName MayName MayNa
 name_of_place (Place-F.Whole at target) = name_of_target target
 name_of_place (Place-F.Element at line target index) = None
 
+abbrev pub name_of_forms : Forms MayName
+name_of_forms = record {
+  alone = λ at part. part;
+  binary = λ at line operator left right. None;
+  unary = λ at line operator operand. None;
+  primary = name_of_primary;
+  place = name_of_place;
+}
+
 abbrev pub whole_name : Expression → MayName
-whole_name = fold-Expression MayName MayName MayName MayName MayName MayName MayName MayName MayName
-    name_of_conjunction name_of_equality name_of_expression name_of_place name_of_primary name_of_relation name_of_sum name_of_term name_of_unary
+whole_name = expression_by name_of_forms
 
 -- the formal or local that an expression is, if it is one
 abbrev pub whole_variable : MayName → List Variable → Option Variable

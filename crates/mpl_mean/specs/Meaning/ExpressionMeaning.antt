@@ -2,8 +2,8 @@
 use Rattle.std.specs.Prelude.{ℕ, Bool, true, false, not, List, [], ◌∷◌, map, length, Option, Some, None, if◌then◌else◌, ℤ, pos, Result, int_lt, int_le}
 use Rattle.std.specs.List.{slice_index_or}
 use Rattle.std.specs.Ordering.{int_eq}
-use Rattle.mpl_ast.specs.declared.expression.Expression.{Expression, fold-Expression}
-use Rattle.mpl_ast.specs.declared.expression.Conjunction.TheOpen.{Conjunction-F, Equality-F, Expression-F, Place-F, Primary-F, Relation-F, Sum-F, Term-F, Unary-F}
+use Rattle.mpl_ast.specs.declared.expression.Expression.{Expression}
+use Rattle.mpl_ast.specs.declared.expression.Conjunction.TheOpen.{Place-F, Primary-F}
 use Rattle.mpl_ast.specs.declared.expression.EqualityOperator.{EqualityOperator}
 use Rattle.mpl_ast.specs.declared.expression.EqualityOperator.TheVariants as equality
 use Rattle.mpl_ast.specs.declared.expression.RelationOperator.{RelationOperator}
@@ -18,6 +18,7 @@ use Rattle.mpl_ast.specs.declared.place.Name.{Name}
 use Rattle.mpl_value.specs.Arithmetic as arithmetic
 use Rattle.mpl_value.specs.declared.known.TrapKind.{TrapKind}
 use Rattle.mpl_value.specs.declared.known.TrapKind.TheVariants.{NoInput}
+use Rattle.mpl_mean.specs.Levels.{BinaryOperator, Or, And, Equate, Compare, Add, Multiply, Forms, expression_by}
 use Rattle.mpl_mean.specs.Meaning.Context.{Context}
 use Rattle.mpl_mean.specs.Meaning.Layout.{Function, function_named}
 use Rattle.mpl_mean.specs.Meaning.PlaceMeaning.{read, index_of, is_bool}
@@ -84,35 +85,19 @@ abbrev pub element_of : ℕ → Step Value → Step Value → Step Value
 element_of line array index =
     array >>= (λ a. index >>= (λ i. index_of line (length a.words) (word_of i) >>= (λ n. pure (record { words = slice_index_or a.words n (pos 0) ∷ []; is_bool = a.is_bool }))))
 
--- ---- one rule after another
+-- ---- one form after another
 
-abbrev pub expression_step : Expression-F Evaluates Evaluates Evaluates Evaluates Evaluates Evaluates Evaluates Evaluates Evaluates → Evaluates
-expression_step (Expression-F.OneConjunction at conjunction) = conjunction
-expression_step (Expression-F.Or at line left right) = λ context. left context >>= (λ a. if is_true a then pure (bool_value true) else right context)
+-- the left operand first; the right one of `||` and `&&` only where it decides
+abbrev pub value_of_binary : ℕ → BinaryOperator → Evaluates → Evaluates → Evaluates
+value_of_binary line Or left right = λ context. left context >>= (λ a. if is_true a then pure (bool_value true) else right context)
+value_of_binary line And left right = λ context. left context >>= (λ a. if is_true a then right context else pure (bool_value false))
+value_of_binary line (Equate operator) left right = test_of (equality_test operator) left right
+value_of_binary line (Compare operator) left right = test_of (relation_test operator) left right
+value_of_binary line (Add operator) left right = arithmetic_of line (sum_operation operator) left right
+value_of_binary line (Multiply operator) left right = arithmetic_of line (term_operation operator) left right
 
-abbrev pub conjunction_step : Conjunction-F Evaluates Evaluates Evaluates Evaluates Evaluates Evaluates Evaluates Evaluates Evaluates → Evaluates
-conjunction_step (Conjunction-F.OneEquality at equality) = equality
-conjunction_step (Conjunction-F.And at line left right) = λ context. left context >>= (λ a. if is_true a then right context else pure (bool_value false))
-
-abbrev pub equality_step : Equality-F Evaluates Evaluates Evaluates Evaluates Evaluates Evaluates Evaluates Evaluates Evaluates → Evaluates
-equality_step (Equality-F.OneRelation at relation) = relation
-equality_step (Equality-F.Equate at line left operator right) = test_of (equality_test operator) left right
-
-abbrev pub relation_step : Relation-F Evaluates Evaluates Evaluates Evaluates Evaluates Evaluates Evaluates Evaluates Evaluates → Evaluates
-relation_step (Relation-F.OneSum at sum) = sum
-relation_step (Relation-F.Compare at line left operator right) = test_of (relation_test operator) left right
-
-abbrev pub sum_step : Sum-F Evaluates Evaluates Evaluates Evaluates Evaluates Evaluates Evaluates Evaluates Evaluates → Evaluates
-sum_step (Sum-F.OneTerm at term) = term
-sum_step (Sum-F.Add at line left operator right) = arithmetic_of line (sum_operation operator) left right
-
-abbrev pub term_step : Term-F Evaluates Evaluates Evaluates Evaluates Evaluates Evaluates Evaluates Evaluates Evaluates → Evaluates
-term_step (Term-F.OneUnary at unary) = unary
-term_step (Term-F.Multiply at line left operator right) = arithmetic_of line (term_operation operator) left right
-
-abbrev pub unary_step : Unary-F Evaluates Evaluates Evaluates Evaluates Evaluates Evaluates Evaluates Evaluates Evaluates → Evaluates
-unary_step (Unary-F.OnePrimary at primary) = primary
-unary_step (Unary-F.Apply at line operator operand) = λ context. operand context >>= unary_operation line operator
+abbrev pub value_of_unary : ℕ → UnaryOperator → Evaluates → Evaluates
+value_of_unary line operator operand = λ context. operand context >>= unary_operation line operator
 
 abbrev pub primary_step : Primary-F Evaluates Evaluates Evaluates Evaluates Evaluates Evaluates Evaluates Evaluates Evaluates → Evaluates
 primary_step (Primary-F.Number at value) = λ context. pure (int_value value)
@@ -128,7 +113,15 @@ abbrev pub place_step : Place-F Evaluates Evaluates Evaluates Evaluates Evaluate
 place_step (Place-F.Whole at target) = λ context. read context target
 place_step (Place-F.Element at line target index) = λ context. element_of line (read context target) (index context)
 
+abbrev pub value_of_forms : Forms Evaluates
+value_of_forms = record {
+  alone = λ at part. part;
+  binary = λ at. value_of_binary;
+  unary = λ at. value_of_unary;
+  primary = primary_step;
+  place = place_step;
+}
+
 -- the value of an expression
 abbrev pub value_of : Expression → Evaluates
-value_of = fold-Expression Evaluates Evaluates Evaluates Evaluates Evaluates Evaluates Evaluates Evaluates Evaluates
-    conjunction_step equality_step expression_step place_step primary_step relation_step sum_step term_step unary_step
+value_of = expression_by value_of_forms

@@ -1,7 +1,8 @@
 -- The tokens of expressions.
-use Rattle.mpl_ast.specs.declared.expression.Expression.{Expression, fold-Expression}
-use Rattle.mpl_ast.specs.declared.expression.Place.{Place, fold-Place}
-use Rattle.mpl_ast.specs.declared.expression.Conjunction.TheOpen.{Conjunction-F, Equality-F, Expression-F, Place-F, Primary-F, Relation-F, Sum-F, Term-F, Unary-F}
+use Rattle.std.specs.Prelude.{ℕ}
+use Rattle.mpl_ast.specs.declared.expression.Expression.{Expression}
+use Rattle.mpl_ast.specs.declared.expression.Place.{Place}
+use Rattle.mpl_ast.specs.declared.expression.Conjunction.TheOpen.{Place-F, Primary-F}
 use Rattle.mpl_ast.specs.declared.expression.EqualityOperator.{EqualityOperator}
 use Rattle.mpl_ast.specs.declared.expression.EqualityOperator.TheVariants.{Equal, Unequal}
 use Rattle.mpl_ast.specs.declared.expression.RelationOperator.{RelationOperator}
@@ -14,9 +15,11 @@ use Rattle.mpl_ast.specs.declared.expression.UnaryOperator.{UnaryOperator}
 use Rattle.mpl_ast.specs.declared.expression.UnaryOperator.TheVariants as unary
 use Rattle.mpl_ast.specs.declared.expression.Target.{Target}
 use Rattle.mpl_ast.specs.declared.expression.Target.TheVariants.{Variable, Field}
+use Rattle.mpl_ast.specs.declared.place.At.{At}
 use Rattle.mpl_ast.specs.declared.token.Keyword.TheVariants as word
 use Rattle.mpl_ast.specs.declared.token.Mark.{Mark}
 use Rattle.mpl_ast.specs.declared.token.Mark.TheVariants as m
+use Rattle.mpl_mean.specs.Levels.{BinaryOperator, Or, And, Equate, Compare, Add, Multiply, Forms, expression_by, place_by}
 use Rattle.mpl_mean.specs.Text.Reading.{Reads, ◌>>◌, node, mark, mark_on, keyword, name, token, is_number, separated_if_any}
 
 -- ---- the mark of an operator
@@ -40,43 +43,30 @@ term_mark term.Times = m.Star
 term_mark term.Over = m.Slash
 term_mark term.Modulo = m.Percent
 
+abbrev pub binary_mark : BinaryOperator → Mark
+binary_mark Or = m.OrOr
+binary_mark And = m.AndAnd
+binary_mark (Equate operator) = equality_mark operator
+binary_mark (Compare operator) = relation_mark operator
+binary_mark (Add operator) = sum_mark operator
+binary_mark (Multiply operator) = term_mark operator
+
 abbrev pub unary_mark : UnaryOperator → Mark
 unary_mark unary.Negative = m.Minus
 unary_mark unary.Not = m.Not
 
--- ---- one rule after another
+-- ---- one form after another
 
 abbrev pub target_text : Target → Reads
 target_text (Variable at variable) = node at (name variable)
 target_text (Field at variable field) = node at (name variable >> mark m.Dot >> name field)
 
-abbrev pub expression_step : Expression-F Reads Reads Reads Reads Reads Reads Reads Reads Reads → Reads
-expression_step (Expression-F.OneConjunction at conjunction) = node at conjunction
-expression_step (Expression-F.Or at line left right) = node at (left >> mark_on line m.OrOr >> right)
+-- two with an operator between them
+abbrev pub text_of_binary : At → ℕ → BinaryOperator → Reads → Reads → Reads
+text_of_binary at line operator left right = node at (left >> mark_on line (binary_mark operator) >> right)
 
-abbrev pub conjunction_step : Conjunction-F Reads Reads Reads Reads Reads Reads Reads Reads Reads → Reads
-conjunction_step (Conjunction-F.OneEquality at equality) = node at equality
-conjunction_step (Conjunction-F.And at line left right) = node at (left >> mark_on line m.AndAnd >> right)
-
-abbrev pub equality_step : Equality-F Reads Reads Reads Reads Reads Reads Reads Reads Reads → Reads
-equality_step (Equality-F.OneRelation at relation) = node at relation
-equality_step (Equality-F.Equate at line left operator right) = node at (left >> mark_on line (equality_mark operator) >> right)
-
-abbrev pub relation_step : Relation-F Reads Reads Reads Reads Reads Reads Reads Reads Reads → Reads
-relation_step (Relation-F.OneSum at sum) = node at sum
-relation_step (Relation-F.Compare at line left operator right) = node at (left >> mark_on line (relation_mark operator) >> right)
-
-abbrev pub sum_step : Sum-F Reads Reads Reads Reads Reads Reads Reads Reads Reads → Reads
-sum_step (Sum-F.OneTerm at term) = node at term
-sum_step (Sum-F.Add at line left operator right) = node at (left >> mark_on line (sum_mark operator) >> right)
-
-abbrev pub term_step : Term-F Reads Reads Reads Reads Reads Reads Reads Reads Reads → Reads
-term_step (Term-F.OneUnary at unary) = node at unary
-term_step (Term-F.Multiply at line left operator right) = node at (left >> mark_on line (term_mark operator) >> right)
-
-abbrev pub unary_step : Unary-F Reads Reads Reads Reads Reads Reads Reads Reads Reads → Reads
-unary_step (Unary-F.OnePrimary at primary) = node at primary
-unary_step (Unary-F.Apply at line operator operand) = node at (mark_on line (unary_mark operator) >> operand)
+abbrev pub text_of_unary : At → ℕ → UnaryOperator → Reads → Reads
+text_of_unary at line operator operand = node at (mark_on line (unary_mark operator) >> operand)
 
 abbrev pub primary_step : Primary-F Reads Reads Reads Reads Reads Reads Reads Reads Reads → Reads
 primary_step (Primary-F.Number at value) = node at (token (λ t. is_number value t.kind))
@@ -97,10 +87,11 @@ place_step (Place-F.Element at line target index) =
 
 -- ---- the whole of it
 
+abbrev pub text_of_forms : Forms Reads
+text_of_forms = record { alone = node; binary = text_of_binary; unary = text_of_unary; primary = primary_step; place = place_step }
+
 abbrev pub expression_text : Expression → Reads
-expression_text = fold-Expression Reads Reads Reads Reads Reads Reads Reads Reads Reads
-    conjunction_step equality_step expression_step place_step primary_step relation_step sum_step term_step unary_step
+expression_text = expression_by text_of_forms
 
 abbrev pub place_text : Place → Reads
-place_text = fold-Place Reads Reads Reads Reads Reads Reads Reads Reads Reads
-    conjunction_step equality_step expression_step place_step primary_step relation_step sum_step term_step unary_step
+place_text = place_by text_of_forms

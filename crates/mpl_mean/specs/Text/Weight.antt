@@ -12,9 +12,9 @@ use Rattle.mpl_ast.specs.declared.class.Formal.{Formal}
 use Rattle.mpl_ast.specs.declared.class.Formals.{Formals}
 use Rattle.mpl_ast.specs.declared.class.Item.{Item}
 use Rattle.mpl_ast.specs.declared.class.Item.TheVariants as item
-use Rattle.mpl_ast.specs.declared.expression.Expression.{Expression, fold-Expression}
-use Rattle.mpl_ast.specs.declared.expression.Place.{Place, fold-Place}
-use Rattle.mpl_ast.specs.declared.expression.Conjunction.TheOpen.{Conjunction-F, Equality-F, Expression-F, Place-F, Primary-F, Relation-F, Sum-F, Term-F, Unary-F}
+use Rattle.mpl_ast.specs.declared.expression.Expression.{Expression}
+use Rattle.mpl_ast.specs.declared.expression.Place.{Place}
+use Rattle.mpl_ast.specs.declared.expression.Conjunction.TheOpen.{Place-F, Primary-F}
 use Rattle.mpl_ast.specs.declared.expression.Target.{Target}
 use Rattle.mpl_ast.specs.declared.expression.Target.TheVariants as target
 use Rattle.mpl_ast.specs.declared.flow.Assignment.{Assignment}
@@ -34,6 +34,7 @@ use Rattle.mpl_ast.specs.declared.statement.ForStart.TheVariants.{Declare, Assig
 use Rattle.mpl_ast.specs.declared.statement.Local.{Local}
 use Rattle.mpl_ast.specs.declared.statement.Statement.{Statement, fold-Statement}
 use Rattle.mpl_ast.specs.declared.statement.Statement.TheOpen.{Statement-F}
+use Rattle.mpl_mean.specs.Levels.{Forms, expression_by, place_by}
 use Rattle.mpl_mean.specs.Limits.{most_weight}
 
 -- the weights of some tokens in their order, and what still counts behind them, from what counts before them
@@ -95,34 +96,6 @@ target_weighs (target.Field at variable field) = plain ⨾ plain ⨾ plain
 abbrev pub binary : Weighs → Weighs → Weighs
 binary left right = left ⨾ counted ⨾ right
 
-abbrev pub expression_step : Expression-F Weighs Weighs Weighs Weighs Weighs Weighs Weighs Weighs Weighs → Weighs
-expression_step (Expression-F.OneConjunction at conjunction) = conjunction
-expression_step (Expression-F.Or at line left right) = binary left right
-
-abbrev pub conjunction_step : Conjunction-F Weighs Weighs Weighs Weighs Weighs Weighs Weighs Weighs Weighs → Weighs
-conjunction_step (Conjunction-F.OneEquality at equality) = equality
-conjunction_step (Conjunction-F.And at line left right) = binary left right
-
-abbrev pub equality_step : Equality-F Weighs Weighs Weighs Weighs Weighs Weighs Weighs Weighs Weighs → Weighs
-equality_step (Equality-F.OneRelation at relation) = relation
-equality_step (Equality-F.Equate at line left operator right) = binary left right
-
-abbrev pub relation_step : Relation-F Weighs Weighs Weighs Weighs Weighs Weighs Weighs Weighs Weighs → Weighs
-relation_step (Relation-F.OneSum at sum) = sum
-relation_step (Relation-F.Compare at line left operator right) = binary left right
-
-abbrev pub sum_step : Sum-F Weighs Weighs Weighs Weighs Weighs Weighs Weighs Weighs Weighs → Weighs
-sum_step (Sum-F.OneTerm at term) = term
-sum_step (Sum-F.Add at line left operator right) = binary left right
-
-abbrev pub term_step : Term-F Weighs Weighs Weighs Weighs Weighs Weighs Weighs Weighs Weighs → Weighs
-term_step (Term-F.OneUnary at unary) = unary
-term_step (Term-F.Multiply at line left operator right) = binary left right
-
-abbrev pub unary_step : Unary-F Weighs Weighs Weighs Weighs Weighs Weighs Weighs Weighs Weighs → Weighs
-unary_step (Unary-F.OnePrimary at primary) = primary
-unary_step (Unary-F.Apply at line operator operand) = counted ⨾ operand
-
 abbrev pub primary_step : Primary-F Weighs Weighs Weighs Weighs Weighs Weighs Weighs Weighs Weighs → Weighs
 primary_step (Primary-F.Number at value) = plain
 primary_step (Primary-F.True at) = plain
@@ -137,17 +110,24 @@ abbrev pub place_step : Place-F Weighs Weighs Weighs Weighs Weighs Weighs Weighs
 place_step (Place-F.Whole at target) = target_weighs target
 place_step (Place-F.Element at line target index) = target_weighs target ⨾ bracketed (whole index)
 
+abbrev pub weight_of_forms : Forms Weighs
+weight_of_forms = record {
+  alone = λ at part. part;
+  binary = λ at line operator left right. binary left right;
+  unary = λ at line operator operand. counted ⨾ operand;
+  primary = primary_step;
+  place = place_step;
+}
+
 -- an expression as an operand: its operators count on behind it
 abbrev pub operand_weighs : Expression → Weighs
-operand_weighs = fold-Expression Weighs Weighs Weighs Weighs Weighs Weighs Weighs Weighs Weighs
-    conjunction_step equality_step expression_step place_step primary_step relation_step sum_step term_step unary_step
+operand_weighs = expression_by weight_of_forms
 
 abbrev pub expression_weighs : Expression → Weighs
 expression_weighs e = whole (operand_weighs e)
 
 abbrev pub place_weighs : Place → Weighs
-place_weighs = fold-Place Weighs Weighs Weighs Weighs Weighs Weighs Weighs Weighs Weighs
-    conjunction_step equality_step expression_step place_step primary_step relation_step sum_step term_step unary_step
+place_weighs = place_by weight_of_forms
 
 -- ---- calls
 

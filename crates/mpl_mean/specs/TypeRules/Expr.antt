@@ -1,9 +1,9 @@
 -- Expressions, places, flows and calls without the levels of the grammar: what the type rules speak of. Each begins with
 -- the byte of its first token.
 use Rattle.std.specs.Prelude.{ℕ, List, [], ◌∷◌}
-use Rattle.mpl_ast.specs.declared.expression.Expression.{Expression, fold-Expression}
-use Rattle.mpl_ast.specs.declared.expression.Place.{Place, fold-Place}
-use Rattle.mpl_ast.specs.declared.expression.Conjunction.TheOpen.{Conjunction-F, Equality-F, Expression-F, Place-F, Primary-F, Relation-F, Sum-F, Term-F, Unary-F}
+use Rattle.mpl_ast.specs.declared.expression.Expression.{Expression}
+use Rattle.mpl_ast.specs.declared.expression.Place.{Place}
+use Rattle.mpl_ast.specs.declared.expression.Conjunction.TheOpen.{Place-F, Primary-F}
 use Rattle.mpl_ast.specs.declared.expression.Target.{Target}
 use Rattle.mpl_ast.specs.declared.expression.UnaryOperator.{UnaryOperator}
 use Rattle.mpl_ast.specs.declared.expression.UnaryOperator.TheVariants as unary
@@ -11,6 +11,7 @@ use Rattle.mpl_ast.specs.declared.flow.Call.{Call, fold-Call}
 use Rattle.mpl_ast.specs.declared.flow.Flow.{Flow, fold-Flow}
 use Rattle.mpl_ast.specs.declared.flow.Call.TheOpen.{Call-F, Flow-F}
 use Rattle.mpl_ast.specs.declared.place.Name.{Name}
+use Rattle.mpl_mean.specs.Levels.{BinaryOperator, Or, And, Equate, Compare, Add, Multiply, Forms, expression_by, place_by}
 
 -- what an operator asks of its operands
 pub data Operation : Type 0 where
@@ -63,37 +64,17 @@ begins (CallOnTarget at target member arguments) = at
 
 -- ---- expressions and places
 
-abbrev pub expression_step : Expression-F Expr Expr Expr Expr Expr Expr Expr Expr Expr → Expr
-expression_step (Expression-F.OneConjunction at conjunction) = conjunction
-expression_step (Expression-F.Or at line left right) = Binary at.span.from Logic left right
-
-abbrev pub conjunction_step : Conjunction-F Expr Expr Expr Expr Expr Expr Expr Expr Expr → Expr
-conjunction_step (Conjunction-F.OneEquality at equality) = equality
-conjunction_step (Conjunction-F.And at line left right) = Binary at.span.from Logic left right
-
-abbrev pub equality_step : Equality-F Expr Expr Expr Expr Expr Expr Expr Expr Expr → Expr
-equality_step (Equality-F.OneRelation at relation) = relation
-equality_step (Equality-F.Equate at line left operator right) = Binary at.span.from Equality left right
-
-abbrev pub relation_step : Relation-F Expr Expr Expr Expr Expr Expr Expr Expr Expr → Expr
-relation_step (Relation-F.OneSum at sum) = sum
-relation_step (Relation-F.Compare at line left operator right) = Binary at.span.from Comparison left right
-
-abbrev pub sum_step : Sum-F Expr Expr Expr Expr Expr Expr Expr Expr Expr → Expr
-sum_step (Sum-F.OneTerm at term) = term
-sum_step (Sum-F.Add at line left operator right) = Binary at.span.from Arithmetic left right
-
-abbrev pub term_step : Term-F Expr Expr Expr Expr Expr Expr Expr Expr Expr → Expr
-term_step (Term-F.OneUnary at unary) = unary
-term_step (Term-F.Multiply at line left operator right) = Binary at.span.from Arithmetic left right
+abbrev pub binary_operation : BinaryOperator → Operation
+binary_operation Or = Logic
+binary_operation And = Logic
+binary_operation (Equate operator) = Equality
+binary_operation (Compare operator) = Comparison
+binary_operation (Add operator) = Arithmetic
+binary_operation (Multiply operator) = Arithmetic
 
 abbrev pub unary_operation : UnaryOperator → Operation
 unary_operation unary.Negative = Arithmetic
 unary_operation unary.Not = Logic
-
-abbrev pub unary_step : Unary-F Expr Expr Expr Expr Expr Expr Expr Expr Expr → Expr
-unary_step (Unary-F.OnePrimary at primary) = primary
-unary_step (Unary-F.Apply at line operator operand) = Unary at.span.from (unary_operation operator) operand
 
 abbrev pub primary_step : Primary-F Expr Expr Expr Expr Expr Expr Expr Expr Expr → Expr
 primary_step (Primary-F.Number at value) = Number at.span.from
@@ -109,13 +90,20 @@ abbrev pub place_step : Place-F Expr Expr Expr Expr Expr Expr Expr Expr Expr →
 place_step (Place-F.Whole at target) = Whole at.span.from target
 place_step (Place-F.Element at line target index) = Element at.span.from target index
 
+abbrev pub expr_of_forms : Forms Expr
+expr_of_forms = record {
+  alone = λ at part. part;
+  binary = λ at line operator left right. Binary at.span.from (binary_operation operator) left right;
+  unary = λ at line operator operand. Unary at.span.from (unary_operation operator) operand;
+  primary = primary_step;
+  place = place_step;
+}
+
 abbrev pub expr_of : Expression → Expr
-expr_of = fold-Expression Expr Expr Expr Expr Expr Expr Expr Expr Expr
-    conjunction_step equality_step expression_step place_step primary_step relation_step sum_step term_step unary_step
+expr_of = expression_by expr_of_forms
 
 abbrev pub expr_of_place : Place → Expr
-expr_of_place = fold-Place Expr Expr Expr Expr Expr Expr Expr Expr Expr
-    conjunction_step equality_step expression_step place_step primary_step relation_step sum_step term_step unary_step
+expr_of_place = place_by expr_of_forms
 
 -- ---- flows and calls
 
