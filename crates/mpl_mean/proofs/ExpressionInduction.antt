@@ -5,7 +5,7 @@ use Rattle.std.specs.List.{AllByRecursion}
 use Rattle.mpl_ast.specs.declared.expression.Conjunction.{Conjunction, fold-roll-Conjunction, map-Conjunction, roll-Conjunction}
 use Rattle.mpl_ast.specs.declared.expression.Equality.{Equality, fold-roll-Equality, map-Equality, roll-Equality}
 use Rattle.mpl_ast.specs.declared.expression.Expression.{Expression, fold-roll-Expression, map-Expression, roll-Expression, ind-Expression}
-use Rattle.mpl_ast.specs.declared.expression.Place.{Place, fold-roll-Place, map-Place, roll-Place, out-Place, fold_out-Place}
+use Rattle.mpl_ast.specs.declared.expression.Place.{Place, fold-roll-Place, map-Place, roll-Place, out-Place, fold_out-Place, ind-Place}
 use Rattle.mpl_ast.specs.declared.expression.Primary.{Primary, fold-roll-Primary, map-Primary, roll-Primary}
 use Rattle.mpl_ast.specs.declared.expression.Relation.{Relation, fold-roll-Relation, map-Relation, roll-Relation}
 use Rattle.mpl_ast.specs.declared.expression.Sum.{Sum, fold-roll-Sum, map-Sum, roll-Sum}
@@ -197,8 +197,20 @@ module _ (P : Properties) (c : EachNode P) where
   unary_node (Unary-F.OnePrimary at t) = c.one_primary at t.0 t.1
   unary_node (Unary-F.Apply at line o t) = c.apply at line o t.0 t.1
 
-  pub by_nodes : (e : Expression) → P.expression e
+  pub by_nodes : (t : Expression) → P.expression t
   by_nodes = ind-Expression P.conjunction P.equality P.expression P.place P.primary P.relation P.sum P.term P.unary
+      (λ y z is. subst (λ layer. P.conjunction (roll-Conjunction layer)) is (conjunction_node z))
+      (λ y z is. subst (λ layer. P.equality (roll-Equality layer)) is (equality_node z))
+      (λ y z is. subst (λ layer. P.expression (roll-Expression layer)) is (expression_node z))
+      (λ y z is. subst (λ layer. P.place (roll-Place layer)) is (place_node z))
+      (λ y z is. subst (λ layer. P.primary (roll-Primary layer)) is (primary_node z))
+      (λ y z is. subst (λ layer. P.relation (roll-Relation layer)) is (relation_node z))
+      (λ y z is. subst (λ layer. P.sum (roll-Sum layer)) is (sum_node z))
+      (λ y z is. subst (λ layer. P.term (roll-Term layer)) is (term_node z))
+      (λ y z is. subst (λ layer. P.unary (roll-Unary layer)) is (unary_node z))
+
+  pub place_by_nodes : (t : Place) → P.place t
+  place_by_nodes = ind-Place P.conjunction P.equality P.expression P.place P.primary P.relation P.sum P.term P.unary
       (λ y z is. subst (λ layer. P.conjunction (roll-Conjunction layer)) is (conjunction_node z))
       (λ y z is. subst (λ layer. P.equality (roll-Equality layer)) is (equality_node z))
       (λ y z is. subst (λ layer. P.expression (roll-Expression layer)) is (expression_node z))
@@ -218,8 +230,11 @@ Becomes = (A : Type 0) → Forms A → A
 abbrev pub expression_becomes : Expression → Becomes
 expression_becomes e A forms = expression_by forms e
 
--- it holds of each form, where it holds of its parts
-pub record EachForm (P : Becomes → Type 0) : Type 1 where
+abbrev pub place_becomes : Place → Becomes
+place_becomes t A forms = place_by forms t
+
+-- P holds of each form of expression and Q of each form of place, where they hold of its parts
+pub record EachForm (P Q : Becomes → Type 0) : Type 1 where
   pub alone : (at : At) (t : Becomes) → P t → P (λ A forms. forms.alone at (t A forms))
   pub binary : (at : At) (line : ℕ) (operator : BinaryOperator) (left right : Becomes) → P left → P right → P (λ A forms. forms.binary at line operator (left A forms) (right A forms))
   pub unary : (at : At) (line : ℕ) (operator : UnaryOperator) (operand : Becomes) → P operand → P (λ A forms. forms.unary at line operator (operand A forms))
@@ -227,23 +242,23 @@ pub record EachForm (P : Becomes → Type 0) : Type 1 where
   pub true : (at : At) → P (λ A forms. forms.primary (Primary-F.True at))
   pub false : (at : At) → P (λ A forms. forms.primary (Primary-F.False at))
   pub own : (at : At) → P (λ A forms. forms.primary (Primary-F.Own at))
-  pub read : (at : At) (place : Becomes) → P place → P (λ A forms. forms.primary (Primary-F.Read at (place A forms)))
+  pub read : (at : At) (place : Becomes) → Q place → P (λ A forms. forms.primary (Primary-F.Read at (place A forms)))
   pub input : (at : At) → P (λ A forms. forms.primary (Primary-F.Input at))
   pub call : (at : At) (function : Name) (arguments : List Expression) → AllByRecursion (λ e. P (expression_becomes e)) arguments → P (λ A forms. forms.primary (Primary-F.CallPlain at function (map (expression_by forms) arguments)))
   pub parenthesized : (at : At) (inner : Becomes) → P inner → P (λ A forms. forms.primary (Primary-F.Parenthesized at (inner A forms)))
-  pub whole : (at : At) (target : Target) → P (λ A forms. forms.place (Place-F.Whole at target))
-  pub element : (at : At) (line : ℕ) (target : Target) (index : Becomes) → P index → P (λ A forms. forms.place (Place-F.Element at line target (index A forms)))
+  pub whole : (at : At) (target : Target) → Q (λ A forms. forms.place (Place-F.Whole at target))
+  pub element : (at : At) (line : ℕ) (target : Target) (index : Becomes) → P index → Q (λ A forms. forms.place (Place-F.Element at line target (index A forms)))
 
-module _ (P : Becomes → Type 0) (c : EachForm P) where
-  rolled : {t u : Becomes} → ((A : Type 0) (forms : Forms A) → t A forms ≡ u A forms) → P u → P t
-  rolled e = subst P (λ i. λ A forms. sym (e A forms) i)
+module _ (P Q : Becomes → Type 0) (c : EachForm P Q) where
+  rolled : (R : Becomes → Type 0) {t u : Becomes} → ((A : Type 0) (forms : Forms A) → t A forms ≡ u A forms) → R u → R t
+  rolled R e = subst R (λ i. λ A forms. sym (e A forms) i)
 
   abbrev properties : Properties
   properties = record {
     conjunction = λ t. P (λ A forms. conjunction_by forms t);
     equality = λ t. P (λ A forms. equality_by forms t);
     expression = λ t. P (λ A forms. expression_by forms t);
-    place = λ t. P (λ A forms. place_by forms t);
+    place = λ t. Q (λ A forms. place_by forms t);
     primary = λ t. P (λ A forms. primary_by forms t);
     relation = λ t. P (λ A forms. relation_by forms t);
     sum = λ t. P (λ A forms. sum_by forms t);
@@ -253,31 +268,34 @@ module _ (P : Becomes → Type 0) (c : EachForm P) where
 
   nodes : EachNode properties
   nodes = record {
-    one_conjunction = λ at t p. rolled (λ A forms. expression_rolls forms (Expression-F.OneConjunction at t)) (c.alone at (λ A forms. conjunction_by forms t) p);
-    or = λ at line l r p q. rolled (λ A forms. expression_rolls forms (Expression-F.Or at line l r)) (c.binary at line Or (λ A forms. expression_by forms l) (λ A forms. conjunction_by forms r) p q);
-    one_equality = λ at t p. rolled (λ A forms. conjunction_rolls forms (Conjunction-F.OneEquality at t)) (c.alone at (λ A forms. equality_by forms t) p);
-    and = λ at line l r p q. rolled (λ A forms. conjunction_rolls forms (Conjunction-F.And at line l r)) (c.binary at line And (λ A forms. conjunction_by forms l) (λ A forms. equality_by forms r) p q);
-    one_relation = λ at t p. rolled (λ A forms. equality_rolls forms (Equality-F.OneRelation at t)) (c.alone at (λ A forms. relation_by forms t) p);
-    equate = λ at line l o r p q. rolled (λ A forms. equality_rolls forms (Equality-F.Equate at line l o r)) (c.binary at line (Equate o) (λ A forms. equality_by forms l) (λ A forms. relation_by forms r) p q);
-    one_sum = λ at t p. rolled (λ A forms. relation_rolls forms (Relation-F.OneSum at t)) (c.alone at (λ A forms. sum_by forms t) p);
-    compare = λ at line l o r p q. rolled (λ A forms. relation_rolls forms (Relation-F.Compare at line l o r)) (c.binary at line (Compare o) (λ A forms. relation_by forms l) (λ A forms. sum_by forms r) p q);
-    one_term = λ at t p. rolled (λ A forms. sum_rolls forms (Sum-F.OneTerm at t)) (c.alone at (λ A forms. term_by forms t) p);
-    add = λ at line l o r p q. rolled (λ A forms. sum_rolls forms (Sum-F.Add at line l o r)) (c.binary at line (Add o) (λ A forms. sum_by forms l) (λ A forms. term_by forms r) p q);
-    one_unary = λ at t p. rolled (λ A forms. term_rolls forms (Term-F.OneUnary at t)) (c.alone at (λ A forms. unary_by forms t) p);
-    multiply = λ at line l o r p q. rolled (λ A forms. term_rolls forms (Term-F.Multiply at line l o r)) (c.binary at line (Multiply o) (λ A forms. term_by forms l) (λ A forms. unary_by forms r) p q);
-    one_primary = λ at t p. rolled (λ A forms. unary_rolls forms (Unary-F.OnePrimary at t)) (c.alone at (λ A forms. primary_by forms t) p);
-    apply = λ at line o t p. rolled (λ A forms. unary_rolls forms (Unary-F.Apply at line o t)) (c.unary at line o (λ A forms. unary_by forms t) p);
-    number = λ at value. rolled (λ A forms. primary_rolls forms (Primary-F.Number at value)) (c.number at value);
-    true = λ at. rolled (λ A forms. primary_rolls forms (Primary-F.True at)) (c.true at);
-    false = λ at. rolled (λ A forms. primary_rolls forms (Primary-F.False at)) (c.false at);
-    own = λ at. rolled (λ A forms. primary_rolls forms (Primary-F.Own at)) (c.own at);
-    read = λ at t p. rolled (λ A forms. primary_rolls forms (Primary-F.Read at t)) (c.read at (λ A forms. place_by forms t) p);
-    input = λ at. rolled (λ A forms. primary_rolls forms (Primary-F.Input at)) (c.input at);
-    call = λ at f es ps. rolled (λ A forms. primary_rolls forms (Primary-F.CallPlain at f es)) (c.call at f es ps);
-    parenthesized = λ at e p. rolled (λ A forms. primary_rolls forms (Primary-F.Parenthesized at e)) (c.parenthesized at (λ A forms. expression_by forms e) p);
-    whole = λ at t. rolled (λ A forms. place_rolls forms (Place-F.Whole at t)) (c.whole at t);
-    element = λ at line t e p. rolled (λ A forms. place_rolls forms (Place-F.Element at line t e)) (c.element at line t (λ A forms. expression_by forms e) p);
+    one_conjunction = λ at t p. rolled P (λ A forms. expression_rolls forms (Expression-F.OneConjunction at t)) (c.alone at (λ A forms. conjunction_by forms t) p);
+    or = λ at line l r p q. rolled P (λ A forms. expression_rolls forms (Expression-F.Or at line l r)) (c.binary at line Or (λ A forms. expression_by forms l) (λ A forms. conjunction_by forms r) p q);
+    one_equality = λ at t p. rolled P (λ A forms. conjunction_rolls forms (Conjunction-F.OneEquality at t)) (c.alone at (λ A forms. equality_by forms t) p);
+    and = λ at line l r p q. rolled P (λ A forms. conjunction_rolls forms (Conjunction-F.And at line l r)) (c.binary at line And (λ A forms. conjunction_by forms l) (λ A forms. equality_by forms r) p q);
+    one_relation = λ at t p. rolled P (λ A forms. equality_rolls forms (Equality-F.OneRelation at t)) (c.alone at (λ A forms. relation_by forms t) p);
+    equate = λ at line l o r p q. rolled P (λ A forms. equality_rolls forms (Equality-F.Equate at line l o r)) (c.binary at line (Equate o) (λ A forms. equality_by forms l) (λ A forms. relation_by forms r) p q);
+    one_sum = λ at t p. rolled P (λ A forms. relation_rolls forms (Relation-F.OneSum at t)) (c.alone at (λ A forms. sum_by forms t) p);
+    compare = λ at line l o r p q. rolled P (λ A forms. relation_rolls forms (Relation-F.Compare at line l o r)) (c.binary at line (Compare o) (λ A forms. relation_by forms l) (λ A forms. sum_by forms r) p q);
+    one_term = λ at t p. rolled P (λ A forms. sum_rolls forms (Sum-F.OneTerm at t)) (c.alone at (λ A forms. term_by forms t) p);
+    add = λ at line l o r p q. rolled P (λ A forms. sum_rolls forms (Sum-F.Add at line l o r)) (c.binary at line (Add o) (λ A forms. sum_by forms l) (λ A forms. term_by forms r) p q);
+    one_unary = λ at t p. rolled P (λ A forms. term_rolls forms (Term-F.OneUnary at t)) (c.alone at (λ A forms. unary_by forms t) p);
+    multiply = λ at line l o r p q. rolled P (λ A forms. term_rolls forms (Term-F.Multiply at line l o r)) (c.binary at line (Multiply o) (λ A forms. term_by forms l) (λ A forms. unary_by forms r) p q);
+    one_primary = λ at t p. rolled P (λ A forms. unary_rolls forms (Unary-F.OnePrimary at t)) (c.alone at (λ A forms. primary_by forms t) p);
+    apply = λ at line o t p. rolled P (λ A forms. unary_rolls forms (Unary-F.Apply at line o t)) (c.unary at line o (λ A forms. unary_by forms t) p);
+    number = λ at value. rolled P (λ A forms. primary_rolls forms (Primary-F.Number at value)) (c.number at value);
+    true = λ at. rolled P (λ A forms. primary_rolls forms (Primary-F.True at)) (c.true at);
+    false = λ at. rolled P (λ A forms. primary_rolls forms (Primary-F.False at)) (c.false at);
+    own = λ at. rolled P (λ A forms. primary_rolls forms (Primary-F.Own at)) (c.own at);
+    read = λ at t p. rolled P (λ A forms. primary_rolls forms (Primary-F.Read at t)) (c.read at (λ A forms. place_by forms t) p);
+    input = λ at. rolled P (λ A forms. primary_rolls forms (Primary-F.Input at)) (c.input at);
+    call = λ at f es ps. rolled P (λ A forms. primary_rolls forms (Primary-F.CallPlain at f es)) (c.call at f es ps);
+    parenthesized = λ at e p. rolled P (λ A forms. primary_rolls forms (Primary-F.Parenthesized at e)) (c.parenthesized at (λ A forms. expression_by forms e) p);
+    whole = λ at t. rolled Q (λ A forms. place_rolls forms (Place-F.Whole at t)) (c.whole at t);
+    element = λ at line t e p. rolled Q (λ A forms. place_rolls forms (Place-F.Element at line t e)) (c.element at line t (λ A forms. expression_by forms e) p);
   }
 
   pub by_forms : (e : Expression) → P (expression_becomes e)
   by_forms = by_nodes properties nodes
+
+  pub place_by_forms : (t : Place) → Q (place_becomes t)
+  place_by_forms = place_by_nodes properties nodes

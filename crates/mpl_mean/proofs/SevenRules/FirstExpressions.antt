@@ -32,7 +32,7 @@ binary_is_first at (Multiply term.Over) l r p q f g h =
 binary_is_first at (Multiply term.Modulo) l r p q f g h =
     let b = both_true (l && false) r h in absurd (true≢false (sym (both_true l false b.0).1))
 
-forms_are_first : EachForm Good
+forms_are_first : EachForm Good Good
 forms_are_first = record {
   alone = λ at t p. p;
   binary = λ at line operator l r p q. binary_is_first at.span.from operator _ _ _ _ p q;
@@ -50,4 +50,4 @@ forms_are_first = record {
 }
 
 pub expression_is_first : (e : Expression) → is_first_expression e ≡ true → IsFirst (expr_of e)
-expression_is_first = by_forms Good forms_are_first
+expression_is_first = by_forms Good Good forms_are_first

@@ -14,7 +14,7 @@ use Rattle.mpl_mean.specs.Meaning.PlaceMeaning.{read}
 use Rattle.mpl_mean.specs.Meaning.Store.{Step, pure, computed, all_of}
 use Rattle.mpl_mean.specs.Meaning.Values.{Value, word_of, is_true}
 use Rattle.mpl_mean.proofs.Simulations.Simulation.{Simulation, BelowBeside, Same, first, second, goes_on_same, gives_same, computes, all_same}
-use Rattle.mpl_mean.proofs.ExpressionInduction.{EachForm, by_forms}
+use Rattle.mpl_mean.proofs.ExpressionInduction.{Becomes, EachForm, by_forms}
 use Rattle.mpl_mean.proofs.Simulations.KeptPlaces.{read_kept, index_kept}
 
 -- the relation between the two runs of one meaning
@@ -85,7 +85,10 @@ module _ (S : Simulation) (b c : Callees) (d : BelowBeside S b c) where
 
   -- ---- one form after another
 
-  forms_kept : EachForm (λ t. Keeps (t Evaluates value_of_forms))
+  abbrev KeepsForm : Becomes → Type 0
+  KeepsForm t = Keeps (t Evaluates value_of_forms)
+
+  forms_kept : EachForm KeepsForm KeepsForm
   forms_kept = record {
     alone = λ at t p. p;
     binary = λ at line operator l r p q. binary_kept line operator _ _ p q;
@@ -103,4 +106,4 @@ module _ (S : Simulation) (b c : Callees) (d : BelowBeside S b c) where
   }
 
   pub expression_kept : (e : Expression) → Kept S b c Value Same (value_of e)
-  expression_kept = by_forms (λ t. Keeps (t Evaluates value_of_forms)) forms_kept
+  expression_kept = by_forms KeepsForm KeepsForm forms_kept

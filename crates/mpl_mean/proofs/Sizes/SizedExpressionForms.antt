@@ -26,7 +26,7 @@ each_means : (es : List Expression) → AllByRecursion (λ e. Means (value_of e)
 each_means [] all = each.none
 each_means (e ∷ es) all = each.more all.0 (each_means es all.1)
 
-forms_mean : EachForm Good
+forms_mean : EachForm Good Good
 forms_mean = record {
   alone = λ at t p. p;
   binary = λ at line operator l r p q. binary_means at.span.from line operator p q;
@@ -44,4 +44,4 @@ forms_mean = record {
 }
 
 pub expression_means : (e : Expression) → Means (value_of e) (expr_of e) (whole_name e)
-expression_means = by_forms Good forms_mean
+expression_means = by_forms Good Good forms_mean
