@@ -1,11 +1,11 @@
 -- Each expression of the first form is the tree of plain data.
 use Rattle.std.proofs.Common.{◌≡◌, ℕ, Bool, true, false, ◌&&◌, sym, ◌∙◌, ap, true≢false, refl}
-use Rattle.mpl_ast.specs.declared.expression.Conjunction.{Conjunction, roll-Conjunction}
-use Rattle.mpl_ast.specs.declared.expression.Equality.{Equality, roll-Equality}
+use Rattle.mpl_ast.specs.declared.expression.Conjunction.{roll-Conjunction}
+use Rattle.mpl_ast.specs.declared.expression.Equality.{roll-Equality}
 use Rattle.mpl_ast.specs.declared.expression.Expression.{Expression, roll-Expression}
-use Rattle.mpl_ast.specs.declared.expression.Place.{Place, roll-Place}
-use Rattle.mpl_ast.specs.declared.expression.Primary.{Primary, roll-Primary}
-use Rattle.mpl_ast.specs.declared.expression.Relation.{Relation, roll-Relation}
+use Rattle.mpl_ast.specs.declared.expression.Place.{roll-Place}
+use Rattle.mpl_ast.specs.declared.expression.Primary.{roll-Primary}
+use Rattle.mpl_ast.specs.declared.expression.Relation.{roll-Relation}
 use Rattle.mpl_ast.specs.declared.expression.Sum.{Sum, roll-Sum}
 use Rattle.mpl_ast.specs.declared.expression.Term.{Term, roll-Term}
 use Rattle.mpl_ast.specs.declared.expression.Unary.{Unary, roll-Unary}

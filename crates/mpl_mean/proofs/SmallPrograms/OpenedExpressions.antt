@@ -9,7 +9,6 @@ use Rattle.mpl_ast.specs.declared.expression.Relation.{Relation, fold_out-Relati
 use Rattle.mpl_ast.specs.declared.expression.Sum.{Sum, fold_out-Sum, map-Sum, out-Sum}
 use Rattle.mpl_ast.specs.declared.expression.Term.{Term, fold_out-Term, map-Term, out-Term}
 use Rattle.mpl_ast.specs.declared.expression.Unary.{Unary, fold_out-Unary, map-Unary, out-Unary}
-use Rattle.mpl_ast.specs.declared.expression.Conjunction.TheOpen.{Conjunction-F, Equality-F, Expression-F, Place-F, Primary-F, Relation-F, Sum-F, Term-F, Unary-F}
 use Rattle.mpl_mean.specs.Levels.{Forms, expression_step, conjunction_step, equality_step, relation_step, sum_step, term_step, unary_step, expression_by, conjunction_by, equality_by, relation_by, sum_by, term_by, unary_by, primary_by, place_by}
 use Rattle.mpl_mean.specs.Meaning.ExpressionMeaning.{Evaluates, value_of, value_of_forms}
 use Rattle.mpl_mean.specs.Meaning.CallMeaning.{MayName, whole_name, name_of_forms}

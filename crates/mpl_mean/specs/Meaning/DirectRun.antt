@@ -2,8 +2,6 @@
 use Rattle.std.specs.Prelude.{ℕ, List, [], ℤ, pos, None}
 use Rattle.std.specs.FinMap.{empty}
 use Rattle.mpl_ast.specs.declared.program.Program.{Program}
-use Rattle.mpl_value.specs.declared.body.BodyEnd.{BodyEnd}
-use Rattle.mpl_value.specs.declared.body.BodyEnd.TheVariants as end
 use Rattle.mpl_value.specs.declared.body.BodyStart.{BodyStart}
 use Rattle.mpl_value.specs.declared.body.Yield.{Yield}
 use Rattle.mpl_mean.specs.Meaning.BodyMeaning.{yield_of}

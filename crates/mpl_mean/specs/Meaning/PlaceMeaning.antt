@@ -1,5 +1,5 @@
 -- What a place stands for, and how its words are read and stored.
-use Rattle.std.specs.Prelude.{ℕ, ◌+◌, Bool, true, false, nat_lt, List, [], Option, Some, None, if◌then◌else◌, ℤ, pos, negsuc}
+use Rattle.std.specs.Prelude.{ℕ, ◌+◌, Bool, true, false, List, [], Option, Some, None, ℤ}
 use Rattle.mpl_ast.specs.declared.expression.Target.{Target}
 use Rattle.mpl_ast.specs.declared.expression.Target.TheVariants as target
 use Rattle.mpl_ast.specs.declared.statement.TypeName.{TypeName}

@@ -1,5 +1,5 @@
 -- What statements do.
-use Rattle.std.specs.Prelude.{ℕ, zero, suc, ◌+◌, ◌*◌, ◌^◌, Bool, true, false, List, [], ◌∷◌, ◌++◌, map, length, replicate, Option, Some, None, if◌then◌else◌, ℤ, pos}
+use Rattle.std.specs.Prelude.{ℕ, zero, suc, ◌+◌, Bool, true, false, List, [], ◌∷◌, ◌++◌, map, length, Option, Some, None, if◌then◌else◌, ℤ, pos}
 use Rattle.mpl_ast.specs.declared.expression.Expression.{Expression}
 use Rattle.mpl_ast.specs.declared.expression.Place.{Place, out-Place}
 use Rattle.mpl_ast.specs.declared.expression.Conjunction.{Conjunction}
@@ -22,11 +22,10 @@ use Rattle.mpl_ast.specs.declared.statement.Statement.{Statement, fold-Statement
 use Rattle.mpl_ast.specs.declared.statement.Statement.TheOpen.{Statement-F}
 use Rattle.mpl_ast.specs.declared.statement.TypeName.{TypeName}
 use Rattle.mpl_value.specs.declared.body.Arg.{Arg}
-use Rattle.mpl_value.specs.declared.body.Arg.TheVariants.{Know, Trapped, Unknown}
+use Rattle.mpl_value.specs.declared.body.Arg.TheVariants.{Know}
 use Rattle.mpl_value.specs.declared.body.BodyEnd.TheVariants as end
 use Rattle.mpl_value.specs.declared.body.BodyResult.{BodyResult}
 use Rattle.mpl_value.specs.declared.body.BodyResult.TheVariants as result
-use Rattle.mpl_value.specs.declared.known.Known.TheVariants as known
 use Rattle.mpl_value.specs.declared.known.TrapKind.TheVariants.{Twice}
 use Rattle.mpl_mean.specs.Meaning.CallMeaning.{passes, call_value, class_of_location}
 use Rattle.mpl_mean.specs.Meaning.Context.{Context}

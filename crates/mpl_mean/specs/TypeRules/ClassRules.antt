@@ -1,5 +1,5 @@
 -- The type rules on classes: rules 9 to 11 and 25.
-use Rattle.std.specs.Prelude.{ℕ, Bool, true, false, ◌&&◌, ◌==◌, nat_le, Some}
+use Rattle.std.specs.Prelude.{Bool, true, false, ◌&&◌, ◌==◌, nat_le, Some}
 use Rattle.std.specs.List.{list_all}
 use Rattle.mpl_ast.specs.declared.class.ResultType.{ResultType}
 use Rattle.mpl_ast.specs.declared.class.ResultType.TheVariants.{Void, Typed}
