@@ -16,7 +16,7 @@ pub term-requires-clause-room : goal.term-requires-clause-room
 term-requires-clause-room t c =
     let s = ap (numbered 6) c.start-start.ensures.after in
     let n = ap (λ (r : Rest). length r.tokens) c.start-start.ensures.after in
-    omega (arith, first-some is_operand _ c.requires.first, products_ahead-le c.start-start.new.self.left.now, c.products_ahead.ensures)
+    omega (arith, first-some is_operand c.args.self.now.left.now c.requires.first, products_ahead-le c.start-start.new.self.left.now, c.products_ahead.ensures)
 
 pub returns-then-operators-eq0-clause-text : goal.returns-then-operators-eq0-clause-text
 returns-then-operators-eq0-clause-text t c =
@@ -30,7 +30,7 @@ term-requires-2-clause-room t c =
     let k = ap (λ (ts : _). length ts) c.take-token.ensures.tokens in
     omega (
       arith,
-      first-some is_operand _ c.requires.first,
+      first-some is_operand c.args.self.now.left.now c.requires.first,
       products_ahead-le c.take-token.new.self.left.now,
       c.products_ahead-2.ensures,
       c.in_ok-sum.ensures.room,
