@@ -22,7 +22,8 @@ use Rattle.mpl_mean.specs.Text.ExpressionText.{expression_text, text_of_forms}
 use Rattle.mpl_mean.specs.Text.Reading.{Reads, Rest, node, name, token, mark_on, is_mark, is_name, is_number, ◌>>◌}
 use Rattle.mpl_mean.specs.Text.Weight as weight
 use Rattle.mpl_mean.specs.Text.Weight.{Weighs, plain, binary, operand_weighs, weight_of_forms}
-use Rattle.std.specs.Prelude.{ℤ}
+use Rattle.std.specs.Prelude.{ℤ, int_le, pos}
+use Rattle.std.specs.Ordering.{int_eq}
 use Rattle.mpl_parse.specs.Internal.Ahead.{first_is, is_operand, is_operator, operators_ahead, operators_behind}
 use Rattle.mpl_parse.specs.Internal.TokensAndWeights.{all_light, is_light_expression}
 use Rattle.mpl_parse.specs.Internal.Stages.{Stage, BeforeOperand, BehindOperand, BehindExpression, Refused, leads, brackets, most_operators, behind_expression}
@@ -73,7 +74,7 @@ Fits-operand at test is = record {
 
 operand-number : (value : ℤ) (k : TokenKind) → is_number value k ≡ true → is_operand k ≡ true
 operand-number value (kind.Name text) h = refl
-operand-number value (kind.Number n) h = refl
+operand-number value (kind.Number n) h = or_left _ _ (both_true (int_le (pos 0) n) (int_eq n value) h).0
 operand-number value (kind.Keyword k) h = h
 operand-number value (kind.Mark k) h = h
 
@@ -82,7 +83,7 @@ Fits-number at value = Fits-operand at (λ t. is_number value t.kind) (λ t h. o
 
 operand-name : (text : List ℕ) (k : TokenKind) → is_name text k ≡ true → is_operand k ≡ true
 operand-name text (kind.Name other) h = refl
-operand-name text (kind.Number n) h = refl
+operand-name text (kind.Number n) h = absurd cc
 operand-name text (kind.Keyword k) h = h
 operand-name text (kind.Mark k) h = h
 
