@@ -25,6 +25,8 @@ use Rattle.mpl_mean.specs.Text.Reading.{Reads, is_mark}
 use Rattle.mpl_mean.proofs.OneTree.BothRead.{told}
 use Rattle.mpl_grammar.specs.Internal.Kinds.{is_equality_operator, is_operator, is_relation_operator, is_sum_operator, is_term_operator}
 use Rattle.mpl_grammar.proofs.Makes.{Makes, ◌▸◌, place_of, reads-mark_on, reads-node, rest_at}
+use Rattle.mpl_mean.proofs.ExpressionInduction.{expression_rolls, conjunction_rolls, equality_rolls, relation_rolls, sum_rolls, term_rolls}
+use Rattle.mpl_mean.specs.Text.ExpressionText.{text_of_forms}
 
 -- ---- levels
 
@@ -146,7 +148,7 @@ term_one {t = t} {ts = ts} {rest = rest} p = record {
   make = λ l n.
       let a = p.make l (n + 1) in
       let layer = Term-F.OneUnary (place_of t n a.last) a.tree in
-      record { tree = roll-Term layer; last = a.last; next = a.next; reads = told (sym (fold-roll-Term Reads Reads Reads Reads Reads Reads Reads Reads Reads text.conjunction_step text.equality_step text.expression_step text.place_step text.primary_step text.relation_step text.sum_step text.term_step text.unary_step layer)) (reads-node t ts l n (unary_text a.tree) (rest_at rest a.last a.next) a.reads) };
+      record { tree = roll-Term layer; last = a.last; next = a.next; reads = told (sym (term_rolls text_of_forms layer)) (reads-node t ts l n (unary_text a.tree) (rest_at rest a.last a.next) a.reads) };
 }
 
 term_more : {t : Token} {ts : List Token} (o u : Token) {us rest : List Token} → Makes term_text (t ∷ ts) (o ∷ u ∷ us) → is_term_operator o.kind ≡ true → Makes unary_text (u ∷ us) rest → Makes term_text (t ∷ ts) rest
@@ -156,7 +158,7 @@ term_more {t = t} {ts = ts} o u {us = us} {rest = rest} p h q = record {
       let a = p.make l (n + 1) in
       let b = q.make o.span.to a.next in
       let layer = Term-F.Multiply (place_of t n b.last) o.line a.tree found.0 b.tree in
-      record { tree = roll-Term layer; last = b.last; next = b.next; reads = told (sym (fold-roll-Term Reads Reads Reads Reads Reads Reads Reads Reads Reads text.conjunction_step text.equality_step text.expression_step text.place_step text.primary_step text.relation_step text.sum_step text.term_step text.unary_step layer)) (reads-node t ts l n _ (rest_at rest b.last b.next) (a.reads ▸ reads-mark_on (term_mark found.0) o (u ∷ us) a.last a.next found.1 ▸ b.reads)) };
+      record { tree = roll-Term layer; last = b.last; next = b.next; reads = told (sym (term_rolls text_of_forms layer)) (reads-node t ts l n _ (rest_at rest b.last b.next) (a.reads ▸ reads-mark_on (term_mark found.0) o (u ∷ us) a.last a.next found.1 ▸ b.reads)) };
 }
 
 makes-bare : {t : Token} {ts rest : List Token} → Level zero t ts rest → Makes unary_text (t ∷ ts) rest
@@ -171,7 +173,7 @@ sum_one {t = t} {ts = ts} {rest = rest} p = record {
   make = λ l n.
       let a = p.make l (n + 1) in
       let layer = Sum-F.OneTerm (place_of t n a.last) a.tree in
-      record { tree = roll-Sum layer; last = a.last; next = a.next; reads = told (sym (fold-roll-Sum Reads Reads Reads Reads Reads Reads Reads Reads Reads text.conjunction_step text.equality_step text.expression_step text.place_step text.primary_step text.relation_step text.sum_step text.term_step text.unary_step layer)) (reads-node t ts l n (term_text a.tree) (rest_at rest a.last a.next) a.reads) };
+      record { tree = roll-Sum layer; last = a.last; next = a.next; reads = told (sym (sum_rolls text_of_forms layer)) (reads-node t ts l n (term_text a.tree) (rest_at rest a.last a.next) a.reads) };
 }
 
 sum_more : {t : Token} {ts : List Token} (o u : Token) {us rest : List Token} → Makes sum_text (t ∷ ts) (o ∷ u ∷ us) → is_sum_operator o.kind ≡ true → Makes term_text (u ∷ us) rest → Makes sum_text (t ∷ ts) rest
@@ -181,7 +183,7 @@ sum_more {t = t} {ts = ts} o u {us = us} {rest = rest} p h q = record {
       let a = p.make l (n + 1) in
       let b = q.make o.span.to a.next in
       let layer = Sum-F.Add (place_of t n b.last) o.line a.tree found.0 b.tree in
-      record { tree = roll-Sum layer; last = b.last; next = b.next; reads = told (sym (fold-roll-Sum Reads Reads Reads Reads Reads Reads Reads Reads Reads text.conjunction_step text.equality_step text.expression_step text.place_step text.primary_step text.relation_step text.sum_step text.term_step text.unary_step layer)) (reads-node t ts l n _ (rest_at rest b.last b.next) (a.reads ▸ reads-mark_on (sum_mark found.0) o (u ∷ us) a.last a.next found.1 ▸ b.reads)) };
+      record { tree = roll-Sum layer; last = b.last; next = b.next; reads = told (sym (sum_rolls text_of_forms layer)) (reads-node t ts l n _ (rest_at rest b.last b.next) (a.reads ▸ reads-mark_on (sum_mark found.0) o (u ∷ us) a.last a.next found.1 ▸ b.reads)) };
 }
 
 makes-sum : {t : Token} {ts rest : List Token} → Level (suc (suc zero)) t ts rest → Makes sum_text (t ∷ ts) rest
@@ -193,7 +195,7 @@ relation_one {t = t} {ts = ts} {rest = rest} p = record {
   make = λ l n.
       let a = p.make l (n + 1) in
       let layer = Relation-F.OneSum (place_of t n a.last) a.tree in
-      record { tree = roll-Relation layer; last = a.last; next = a.next; reads = told (sym (fold-roll-Relation Reads Reads Reads Reads Reads Reads Reads Reads Reads text.conjunction_step text.equality_step text.expression_step text.place_step text.primary_step text.relation_step text.sum_step text.term_step text.unary_step layer)) (reads-node t ts l n (sum_text a.tree) (rest_at rest a.last a.next) a.reads) };
+      record { tree = roll-Relation layer; last = a.last; next = a.next; reads = told (sym (relation_rolls text_of_forms layer)) (reads-node t ts l n (sum_text a.tree) (rest_at rest a.last a.next) a.reads) };
 }
 
 relation_more : {t : Token} {ts : List Token} (o u : Token) {us rest : List Token} → Makes relation_text (t ∷ ts) (o ∷ u ∷ us) → is_relation_operator o.kind ≡ true → Makes sum_text (u ∷ us) rest → Makes relation_text (t ∷ ts) rest
@@ -203,7 +205,7 @@ relation_more {t = t} {ts = ts} o u {us = us} {rest = rest} p h q = record {
       let a = p.make l (n + 1) in
       let b = q.make o.span.to a.next in
       let layer = Relation-F.Compare (place_of t n b.last) o.line a.tree found.0 b.tree in
-      record { tree = roll-Relation layer; last = b.last; next = b.next; reads = told (sym (fold-roll-Relation Reads Reads Reads Reads Reads Reads Reads Reads Reads text.conjunction_step text.equality_step text.expression_step text.place_step text.primary_step text.relation_step text.sum_step text.term_step text.unary_step layer)) (reads-node t ts l n _ (rest_at rest b.last b.next) (a.reads ▸ reads-mark_on (relation_mark found.0) o (u ∷ us) a.last a.next found.1 ▸ b.reads)) };
+      record { tree = roll-Relation layer; last = b.last; next = b.next; reads = told (sym (relation_rolls text_of_forms layer)) (reads-node t ts l n _ (rest_at rest b.last b.next) (a.reads ▸ reads-mark_on (relation_mark found.0) o (u ∷ us) a.last a.next found.1 ▸ b.reads)) };
 }
 
 makes-relation : {t : Token} {ts rest : List Token} → Level (suc (suc (suc zero))) t ts rest → Makes relation_text (t ∷ ts) rest
@@ -215,7 +217,7 @@ equality_one {t = t} {ts = ts} {rest = rest} p = record {
   make = λ l n.
       let a = p.make l (n + 1) in
       let layer = Equality-F.OneRelation (place_of t n a.last) a.tree in
-      record { tree = roll-Equality layer; last = a.last; next = a.next; reads = told (sym (fold-roll-Equality Reads Reads Reads Reads Reads Reads Reads Reads Reads text.conjunction_step text.equality_step text.expression_step text.place_step text.primary_step text.relation_step text.sum_step text.term_step text.unary_step layer)) (reads-node t ts l n (relation_text a.tree) (rest_at rest a.last a.next) a.reads) };
+      record { tree = roll-Equality layer; last = a.last; next = a.next; reads = told (sym (equality_rolls text_of_forms layer)) (reads-node t ts l n (relation_text a.tree) (rest_at rest a.last a.next) a.reads) };
 }
 
 equality_more : {t : Token} {ts : List Token} (o u : Token) {us rest : List Token} → Makes equality_text (t ∷ ts) (o ∷ u ∷ us) → is_equality_operator o.kind ≡ true → Makes relation_text (u ∷ us) rest → Makes equality_text (t ∷ ts) rest
@@ -225,7 +227,7 @@ equality_more {t = t} {ts = ts} o u {us = us} {rest = rest} p h q = record {
       let a = p.make l (n + 1) in
       let b = q.make o.span.to a.next in
       let layer = Equality-F.Equate (place_of t n b.last) o.line a.tree found.0 b.tree in
-      record { tree = roll-Equality layer; last = b.last; next = b.next; reads = told (sym (fold-roll-Equality Reads Reads Reads Reads Reads Reads Reads Reads Reads text.conjunction_step text.equality_step text.expression_step text.place_step text.primary_step text.relation_step text.sum_step text.term_step text.unary_step layer)) (reads-node t ts l n _ (rest_at rest b.last b.next) (a.reads ▸ reads-mark_on (equality_mark found.0) o (u ∷ us) a.last a.next found.1 ▸ b.reads)) };
+      record { tree = roll-Equality layer; last = b.last; next = b.next; reads = told (sym (equality_rolls text_of_forms layer)) (reads-node t ts l n _ (rest_at rest b.last b.next) (a.reads ▸ reads-mark_on (equality_mark found.0) o (u ∷ us) a.last a.next found.1 ▸ b.reads)) };
 }
 
 makes-equality : {t : Token} {ts rest : List Token} → Level (suc (suc (suc (suc zero)))) t ts rest → Makes equality_text (t ∷ ts) rest
@@ -237,7 +239,7 @@ conjunction_one {t = t} {ts = ts} {rest = rest} p = record {
   make = λ l n.
       let a = p.make l (n + 1) in
       let layer = Conjunction-F.OneEquality (place_of t n a.last) a.tree in
-      record { tree = roll-Conjunction layer; last = a.last; next = a.next; reads = told (sym (fold-roll-Conjunction Reads Reads Reads Reads Reads Reads Reads Reads Reads text.conjunction_step text.equality_step text.expression_step text.place_step text.primary_step text.relation_step text.sum_step text.term_step text.unary_step layer)) (reads-node t ts l n (equality_text a.tree) (rest_at rest a.last a.next) a.reads) };
+      record { tree = roll-Conjunction layer; last = a.last; next = a.next; reads = told (sym (conjunction_rolls text_of_forms layer)) (reads-node t ts l n (equality_text a.tree) (rest_at rest a.last a.next) a.reads) };
 }
 
 conjunction_more : {t : Token} {ts : List Token} (o u : Token) {us rest : List Token} → Makes conjunction_text (t ∷ ts) (o ∷ u ∷ us) → is_mark m.AndAnd o.kind ≡ true → Makes equality_text (u ∷ us) rest → Makes conjunction_text (t ∷ ts) rest
@@ -246,7 +248,7 @@ conjunction_more {t = t} {ts = ts} o u {us = us} {rest = rest} p h q = record {
       let a = p.make l (n + 1) in
       let b = q.make o.span.to a.next in
       let layer = Conjunction-F.And (place_of t n b.last) o.line a.tree b.tree in
-      record { tree = roll-Conjunction layer; last = b.last; next = b.next; reads = told (sym (fold-roll-Conjunction Reads Reads Reads Reads Reads Reads Reads Reads Reads text.conjunction_step text.equality_step text.expression_step text.place_step text.primary_step text.relation_step text.sum_step text.term_step text.unary_step layer)) (reads-node t ts l n _ (rest_at rest b.last b.next) (a.reads ▸ reads-mark_on m.AndAnd o (u ∷ us) a.last a.next h ▸ b.reads)) };
+      record { tree = roll-Conjunction layer; last = b.last; next = b.next; reads = told (sym (conjunction_rolls text_of_forms layer)) (reads-node t ts l n _ (rest_at rest b.last b.next) (a.reads ▸ reads-mark_on m.AndAnd o (u ∷ us) a.last a.next h ▸ b.reads)) };
 }
 
 makes-conjunction : {t : Token} {ts rest : List Token} → Level (suc (suc (suc (suc (suc zero))))) t ts rest → Makes conjunction_text (t ∷ ts) rest
@@ -258,7 +260,7 @@ expression_one {t = t} {ts = ts} {rest = rest} p = record {
   make = λ l n.
       let a = p.make l (n + 1) in
       let layer = Expression-F.OneConjunction (place_of t n a.last) a.tree in
-      record { tree = roll-Expression layer; last = a.last; next = a.next; reads = told (sym (fold-roll-Expression Reads Reads Reads Reads Reads Reads Reads Reads Reads text.conjunction_step text.equality_step text.expression_step text.place_step text.primary_step text.relation_step text.sum_step text.term_step text.unary_step layer)) (reads-node t ts l n (conjunction_text a.tree) (rest_at rest a.last a.next) a.reads) };
+      record { tree = roll-Expression layer; last = a.last; next = a.next; reads = told (sym (expression_rolls text_of_forms layer)) (reads-node t ts l n (conjunction_text a.tree) (rest_at rest a.last a.next) a.reads) };
 }
 
 expression_more : {t : Token} {ts : List Token} (o u : Token) {us rest : List Token} → Makes expression_text (t ∷ ts) (o ∷ u ∷ us) → is_mark m.OrOr o.kind ≡ true → Makes conjunction_text (u ∷ us) rest → Makes expression_text (t ∷ ts) rest
@@ -267,7 +269,7 @@ expression_more {t = t} {ts = ts} o u {us = us} {rest = rest} p h q = record {
       let a = p.make l (n + 1) in
       let b = q.make o.span.to a.next in
       let layer = Expression-F.Or (place_of t n b.last) o.line a.tree b.tree in
-      record { tree = roll-Expression layer; last = b.last; next = b.next; reads = told (sym (fold-roll-Expression Reads Reads Reads Reads Reads Reads Reads Reads Reads text.conjunction_step text.equality_step text.expression_step text.place_step text.primary_step text.relation_step text.sum_step text.term_step text.unary_step layer)) (reads-node t ts l n _ (rest_at rest b.last b.next) (a.reads ▸ reads-mark_on m.OrOr o (u ∷ us) a.last a.next h ▸ b.reads)) };
+      record { tree = roll-Expression layer; last = b.last; next = b.next; reads = told (sym (expression_rolls text_of_forms layer)) (reads-node t ts l n _ (rest_at rest b.last b.next) (a.reads ▸ reads-mark_on m.OrOr o (u ∷ us) a.last a.next h ▸ b.reads)) };
 }
 
 makes-expression : {t : Token} {ts rest : List Token} → Level (suc (suc (suc (suc (suc (suc zero)))))) t ts rest → Makes expression_text (t ∷ ts) rest

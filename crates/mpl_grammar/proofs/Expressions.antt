@@ -20,36 +20,33 @@ use Rattle.mpl_mean.specs.Text.Weight.{Weighs, operand_weighs, place_weighs}
 use Rattle.mpl_grammar.proofs.Lists.{Each, more, none}
 use Rattle.mpl_grammar.proofs.Operands.{Drives, IsOperator, drives-apply, drives-binary, drives-one, equality_operator, relation_operator, sum_operator, term_operator}
 use Rattle.mpl_grammar.proofs.Primaries.{IsPlace, drives-false, drives-input, drives-number, drives-own, drives-parenthesized, drives-plain, drives-read, drives-true, element_place, whole_place}
+use Rattle.mpl_mean.specs.Levels.{expression_step, conjunction_by, conjunction_step, equality_by, equality_step, relation_by, relation_step, sum_by, sum_step, term_by, term_step, unary_by, unary_step, primary_by}
+use Rattle.mpl_mean.proofs.ExpressionInduction.{expression_rolls, conjunction_rolls, equality_rolls, relation_rolls, sum_rolls, term_rolls, unary_rolls, place_rolls, primary_rolls}
+use Rattle.mpl_mean.specs.Text.ExpressionText.{text_of_forms}
+use Rattle.mpl_mean.specs.Text.Weight.{weight_of_forms}
 
 -- ---- the weights of each level
 
 abbrev conjunction_weighs : Conjunction → Weighs
-conjunction_weighs = fold-Conjunction Weighs Weighs Weighs Weighs Weighs Weighs Weighs Weighs Weighs
-    weight.conjunction_step weight.equality_step weight.expression_step weight.place_step weight.primary_step weight.relation_step weight.sum_step weight.term_step weight.unary_step
+conjunction_weighs = conjunction_by weight_of_forms
 
 abbrev equality_weighs : Equality → Weighs
-equality_weighs = fold-Equality Weighs Weighs Weighs Weighs Weighs Weighs Weighs Weighs Weighs
-    weight.conjunction_step weight.equality_step weight.expression_step weight.place_step weight.primary_step weight.relation_step weight.sum_step weight.term_step weight.unary_step
+equality_weighs = equality_by weight_of_forms
 
 abbrev primary_weighs : Primary → Weighs
-primary_weighs = fold-Primary Weighs Weighs Weighs Weighs Weighs Weighs Weighs Weighs Weighs
-    weight.conjunction_step weight.equality_step weight.expression_step weight.place_step weight.primary_step weight.relation_step weight.sum_step weight.term_step weight.unary_step
+primary_weighs = primary_by weight_of_forms
 
 abbrev relation_weighs : Relation → Weighs
-relation_weighs = fold-Relation Weighs Weighs Weighs Weighs Weighs Weighs Weighs Weighs Weighs
-    weight.conjunction_step weight.equality_step weight.expression_step weight.place_step weight.primary_step weight.relation_step weight.sum_step weight.term_step weight.unary_step
+relation_weighs = relation_by weight_of_forms
 
 abbrev sum_weighs : Sum → Weighs
-sum_weighs = fold-Sum Weighs Weighs Weighs Weighs Weighs Weighs Weighs Weighs Weighs
-    weight.conjunction_step weight.equality_step weight.expression_step weight.place_step weight.primary_step weight.relation_step weight.sum_step weight.term_step weight.unary_step
+sum_weighs = sum_by weight_of_forms
 
 abbrev term_weighs : Term → Weighs
-term_weighs = fold-Term Weighs Weighs Weighs Weighs Weighs Weighs Weighs Weighs Weighs
-    weight.conjunction_step weight.equality_step weight.expression_step weight.place_step weight.primary_step weight.relation_step weight.sum_step weight.term_step weight.unary_step
+term_weighs = term_by weight_of_forms
 
 abbrev unary_weighs : Unary → Weighs
-unary_weighs = fold-Unary Weighs Weighs Weighs Weighs Weighs Weighs Weighs Weighs Weighs
-    weight.conjunction_step weight.equality_step weight.expression_step weight.place_step weight.primary_step weight.relation_step weight.sum_step weight.term_step weight.unary_step
+unary_weighs = unary_by weight_of_forms
 
 -- ---- what is shown of each tree
 
@@ -111,76 +108,76 @@ both : (P : Reads → Weighs → Type 0) {a b : Reads} {v w : Weighs} → a ≡ 
 both P {a = a} {w = w} e f h = subst (λ r. P r w) e (subst (λ u. P a u) f h)
 
 rolled-Conjunction : (layer : Conjunction-F Conjunction Equality Expression Place Primary Relation Sum Term Unary)
-    → Drives (text.conjunction_step (map-Conjunction Conjunction Equality Expression Place Primary Relation Sum Term Unary Reads Reads Reads Reads Reads Reads Reads Reads Reads conjunction_text equality_text expression_text place_text primary_text relation_text sum_text term_text unary_text layer))
-    (weight.conjunction_step (map-Conjunction Conjunction Equality Expression Place Primary Relation Sum Term Unary Weighs Weighs Weighs Weighs Weighs Weighs Weighs Weighs Weighs conjunction_weighs equality_weighs operand_weighs place_weighs primary_weighs relation_weighs sum_weighs term_weighs unary_weighs layer))
+    → Drives (conjunction_step text_of_forms (map-Conjunction Conjunction Equality Expression Place Primary Relation Sum Term Unary Reads Reads Reads Reads Reads Reads Reads Reads Reads conjunction_text equality_text expression_text place_text primary_text relation_text sum_text term_text unary_text layer))
+    (conjunction_step weight_of_forms (map-Conjunction Conjunction Equality Expression Place Primary Relation Sum Term Unary Weighs Weighs Weighs Weighs Weighs Weighs Weighs Weighs Weighs conjunction_weighs equality_weighs operand_weighs place_weighs primary_weighs relation_weighs sum_weighs term_weighs unary_weighs layer))
     → Good-Conjunction (roll-Conjunction layer)
 rolled-Conjunction layer =
-    both Drives (sym (fold-roll-Conjunction Reads Reads Reads Reads Reads Reads Reads Reads Reads text.conjunction_step text.equality_step text.expression_step text.place_step text.primary_step text.relation_step text.sum_step text.term_step text.unary_step layer))
-    (sym (fold-roll-Conjunction Weighs Weighs Weighs Weighs Weighs Weighs Weighs Weighs Weighs weight.conjunction_step weight.equality_step weight.expression_step weight.place_step weight.primary_step weight.relation_step weight.sum_step weight.term_step weight.unary_step layer))
+    both Drives (sym (conjunction_rolls text_of_forms layer))
+    (sym (conjunction_rolls weight_of_forms layer))
 
 rolled-Equality : (layer : Equality-F Conjunction Equality Expression Place Primary Relation Sum Term Unary)
-    → Drives (text.equality_step (map-Equality Conjunction Equality Expression Place Primary Relation Sum Term Unary Reads Reads Reads Reads Reads Reads Reads Reads Reads conjunction_text equality_text expression_text place_text primary_text relation_text sum_text term_text unary_text layer))
-    (weight.equality_step (map-Equality Conjunction Equality Expression Place Primary Relation Sum Term Unary Weighs Weighs Weighs Weighs Weighs Weighs Weighs Weighs Weighs conjunction_weighs equality_weighs operand_weighs place_weighs primary_weighs relation_weighs sum_weighs term_weighs unary_weighs layer))
+    → Drives (equality_step text_of_forms (map-Equality Conjunction Equality Expression Place Primary Relation Sum Term Unary Reads Reads Reads Reads Reads Reads Reads Reads Reads conjunction_text equality_text expression_text place_text primary_text relation_text sum_text term_text unary_text layer))
+    (equality_step weight_of_forms (map-Equality Conjunction Equality Expression Place Primary Relation Sum Term Unary Weighs Weighs Weighs Weighs Weighs Weighs Weighs Weighs Weighs conjunction_weighs equality_weighs operand_weighs place_weighs primary_weighs relation_weighs sum_weighs term_weighs unary_weighs layer))
     → Good-Equality (roll-Equality layer)
 rolled-Equality layer =
-    both Drives (sym (fold-roll-Equality Reads Reads Reads Reads Reads Reads Reads Reads Reads text.conjunction_step text.equality_step text.expression_step text.place_step text.primary_step text.relation_step text.sum_step text.term_step text.unary_step layer))
-    (sym (fold-roll-Equality Weighs Weighs Weighs Weighs Weighs Weighs Weighs Weighs Weighs weight.conjunction_step weight.equality_step weight.expression_step weight.place_step weight.primary_step weight.relation_step weight.sum_step weight.term_step weight.unary_step layer))
+    both Drives (sym (equality_rolls text_of_forms layer))
+    (sym (equality_rolls weight_of_forms layer))
 
 rolled-Expression : (layer : Expression-F Conjunction Equality Expression Place Primary Relation Sum Term Unary)
-    → Drives (text.expression_step (map-Expression Conjunction Equality Expression Place Primary Relation Sum Term Unary Reads Reads Reads Reads Reads Reads Reads Reads Reads conjunction_text equality_text expression_text place_text primary_text relation_text sum_text term_text unary_text layer))
-    (weight.expression_step (map-Expression Conjunction Equality Expression Place Primary Relation Sum Term Unary Weighs Weighs Weighs Weighs Weighs Weighs Weighs Weighs Weighs conjunction_weighs equality_weighs operand_weighs place_weighs primary_weighs relation_weighs sum_weighs term_weighs unary_weighs layer))
+    → Drives (expression_step text_of_forms (map-Expression Conjunction Equality Expression Place Primary Relation Sum Term Unary Reads Reads Reads Reads Reads Reads Reads Reads Reads conjunction_text equality_text expression_text place_text primary_text relation_text sum_text term_text unary_text layer))
+    (expression_step weight_of_forms (map-Expression Conjunction Equality Expression Place Primary Relation Sum Term Unary Weighs Weighs Weighs Weighs Weighs Weighs Weighs Weighs Weighs conjunction_weighs equality_weighs operand_weighs place_weighs primary_weighs relation_weighs sum_weighs term_weighs unary_weighs layer))
     → Good-Expression (roll-Expression layer)
 rolled-Expression layer =
-    both Drives (sym (fold-roll-Expression Reads Reads Reads Reads Reads Reads Reads Reads Reads text.conjunction_step text.equality_step text.expression_step text.place_step text.primary_step text.relation_step text.sum_step text.term_step text.unary_step layer))
-    (sym (fold-roll-Expression Weighs Weighs Weighs Weighs Weighs Weighs Weighs Weighs Weighs weight.conjunction_step weight.equality_step weight.expression_step weight.place_step weight.primary_step weight.relation_step weight.sum_step weight.term_step weight.unary_step layer))
+    both Drives (sym (expression_rolls text_of_forms layer))
+    (sym (expression_rolls weight_of_forms layer))
 
 rolled-Place : (layer : Place-F Conjunction Equality Expression Place Primary Relation Sum Term Unary)
     → IsPlace (text.place_step (map-Place Conjunction Equality Expression Place Primary Relation Sum Term Unary Reads Reads Reads Reads Reads Reads Reads Reads Reads conjunction_text equality_text expression_text place_text primary_text relation_text sum_text term_text unary_text layer))
     (weight.place_step (map-Place Conjunction Equality Expression Place Primary Relation Sum Term Unary Weighs Weighs Weighs Weighs Weighs Weighs Weighs Weighs Weighs conjunction_weighs equality_weighs operand_weighs place_weighs primary_weighs relation_weighs sum_weighs term_weighs unary_weighs layer))
     → Good-Place (roll-Place layer)
 rolled-Place layer =
-    both IsPlace (sym (fold-roll-Place Reads Reads Reads Reads Reads Reads Reads Reads Reads text.conjunction_step text.equality_step text.expression_step text.place_step text.primary_step text.relation_step text.sum_step text.term_step text.unary_step layer))
-    (sym (fold-roll-Place Weighs Weighs Weighs Weighs Weighs Weighs Weighs Weighs Weighs weight.conjunction_step weight.equality_step weight.expression_step weight.place_step weight.primary_step weight.relation_step weight.sum_step weight.term_step weight.unary_step layer))
+    both IsPlace (sym (place_rolls text_of_forms layer))
+    (sym (place_rolls weight_of_forms layer))
 
 rolled-Primary : (layer : Primary-F Conjunction Equality Expression Place Primary Relation Sum Term Unary)
     → Drives (text.primary_step (map-Primary Conjunction Equality Expression Place Primary Relation Sum Term Unary Reads Reads Reads Reads Reads Reads Reads Reads Reads conjunction_text equality_text expression_text place_text primary_text relation_text sum_text term_text unary_text layer))
     (weight.primary_step (map-Primary Conjunction Equality Expression Place Primary Relation Sum Term Unary Weighs Weighs Weighs Weighs Weighs Weighs Weighs Weighs Weighs conjunction_weighs equality_weighs operand_weighs place_weighs primary_weighs relation_weighs sum_weighs term_weighs unary_weighs layer))
     → Good-Primary (roll-Primary layer)
 rolled-Primary layer =
-    both Drives (sym (fold-roll-Primary Reads Reads Reads Reads Reads Reads Reads Reads Reads text.conjunction_step text.equality_step text.expression_step text.place_step text.primary_step text.relation_step text.sum_step text.term_step text.unary_step layer))
-    (sym (fold-roll-Primary Weighs Weighs Weighs Weighs Weighs Weighs Weighs Weighs Weighs weight.conjunction_step weight.equality_step weight.expression_step weight.place_step weight.primary_step weight.relation_step weight.sum_step weight.term_step weight.unary_step layer))
+    both Drives (sym (primary_rolls text_of_forms layer))
+    (sym (primary_rolls weight_of_forms layer))
 
 rolled-Relation : (layer : Relation-F Conjunction Equality Expression Place Primary Relation Sum Term Unary)
-    → Drives (text.relation_step (map-Relation Conjunction Equality Expression Place Primary Relation Sum Term Unary Reads Reads Reads Reads Reads Reads Reads Reads Reads conjunction_text equality_text expression_text place_text primary_text relation_text sum_text term_text unary_text layer))
-    (weight.relation_step (map-Relation Conjunction Equality Expression Place Primary Relation Sum Term Unary Weighs Weighs Weighs Weighs Weighs Weighs Weighs Weighs Weighs conjunction_weighs equality_weighs operand_weighs place_weighs primary_weighs relation_weighs sum_weighs term_weighs unary_weighs layer))
+    → Drives (relation_step text_of_forms (map-Relation Conjunction Equality Expression Place Primary Relation Sum Term Unary Reads Reads Reads Reads Reads Reads Reads Reads Reads conjunction_text equality_text expression_text place_text primary_text relation_text sum_text term_text unary_text layer))
+    (relation_step weight_of_forms (map-Relation Conjunction Equality Expression Place Primary Relation Sum Term Unary Weighs Weighs Weighs Weighs Weighs Weighs Weighs Weighs Weighs conjunction_weighs equality_weighs operand_weighs place_weighs primary_weighs relation_weighs sum_weighs term_weighs unary_weighs layer))
     → Good-Relation (roll-Relation layer)
 rolled-Relation layer =
-    both Drives (sym (fold-roll-Relation Reads Reads Reads Reads Reads Reads Reads Reads Reads text.conjunction_step text.equality_step text.expression_step text.place_step text.primary_step text.relation_step text.sum_step text.term_step text.unary_step layer))
-    (sym (fold-roll-Relation Weighs Weighs Weighs Weighs Weighs Weighs Weighs Weighs Weighs weight.conjunction_step weight.equality_step weight.expression_step weight.place_step weight.primary_step weight.relation_step weight.sum_step weight.term_step weight.unary_step layer))
+    both Drives (sym (relation_rolls text_of_forms layer))
+    (sym (relation_rolls weight_of_forms layer))
 
 rolled-Sum : (layer : Sum-F Conjunction Equality Expression Place Primary Relation Sum Term Unary)
-    → Drives (text.sum_step (map-Sum Conjunction Equality Expression Place Primary Relation Sum Term Unary Reads Reads Reads Reads Reads Reads Reads Reads Reads conjunction_text equality_text expression_text place_text primary_text relation_text sum_text term_text unary_text layer))
-    (weight.sum_step (map-Sum Conjunction Equality Expression Place Primary Relation Sum Term Unary Weighs Weighs Weighs Weighs Weighs Weighs Weighs Weighs Weighs conjunction_weighs equality_weighs operand_weighs place_weighs primary_weighs relation_weighs sum_weighs term_weighs unary_weighs layer))
+    → Drives (sum_step text_of_forms (map-Sum Conjunction Equality Expression Place Primary Relation Sum Term Unary Reads Reads Reads Reads Reads Reads Reads Reads Reads conjunction_text equality_text expression_text place_text primary_text relation_text sum_text term_text unary_text layer))
+    (sum_step weight_of_forms (map-Sum Conjunction Equality Expression Place Primary Relation Sum Term Unary Weighs Weighs Weighs Weighs Weighs Weighs Weighs Weighs Weighs conjunction_weighs equality_weighs operand_weighs place_weighs primary_weighs relation_weighs sum_weighs term_weighs unary_weighs layer))
     → Good-Sum (roll-Sum layer)
 rolled-Sum layer =
-    both Drives (sym (fold-roll-Sum Reads Reads Reads Reads Reads Reads Reads Reads Reads text.conjunction_step text.equality_step text.expression_step text.place_step text.primary_step text.relation_step text.sum_step text.term_step text.unary_step layer))
-    (sym (fold-roll-Sum Weighs Weighs Weighs Weighs Weighs Weighs Weighs Weighs Weighs weight.conjunction_step weight.equality_step weight.expression_step weight.place_step weight.primary_step weight.relation_step weight.sum_step weight.term_step weight.unary_step layer))
+    both Drives (sym (sum_rolls text_of_forms layer))
+    (sym (sum_rolls weight_of_forms layer))
 
 rolled-Term : (layer : Term-F Conjunction Equality Expression Place Primary Relation Sum Term Unary)
-    → Drives (text.term_step (map-Term Conjunction Equality Expression Place Primary Relation Sum Term Unary Reads Reads Reads Reads Reads Reads Reads Reads Reads conjunction_text equality_text expression_text place_text primary_text relation_text sum_text term_text unary_text layer))
-    (weight.term_step (map-Term Conjunction Equality Expression Place Primary Relation Sum Term Unary Weighs Weighs Weighs Weighs Weighs Weighs Weighs Weighs Weighs conjunction_weighs equality_weighs operand_weighs place_weighs primary_weighs relation_weighs sum_weighs term_weighs unary_weighs layer))
+    → Drives (term_step text_of_forms (map-Term Conjunction Equality Expression Place Primary Relation Sum Term Unary Reads Reads Reads Reads Reads Reads Reads Reads Reads conjunction_text equality_text expression_text place_text primary_text relation_text sum_text term_text unary_text layer))
+    (term_step weight_of_forms (map-Term Conjunction Equality Expression Place Primary Relation Sum Term Unary Weighs Weighs Weighs Weighs Weighs Weighs Weighs Weighs Weighs conjunction_weighs equality_weighs operand_weighs place_weighs primary_weighs relation_weighs sum_weighs term_weighs unary_weighs layer))
     → Good-Term (roll-Term layer)
 rolled-Term layer =
-    both Drives (sym (fold-roll-Term Reads Reads Reads Reads Reads Reads Reads Reads Reads text.conjunction_step text.equality_step text.expression_step text.place_step text.primary_step text.relation_step text.sum_step text.term_step text.unary_step layer))
-    (sym (fold-roll-Term Weighs Weighs Weighs Weighs Weighs Weighs Weighs Weighs Weighs weight.conjunction_step weight.equality_step weight.expression_step weight.place_step weight.primary_step weight.relation_step weight.sum_step weight.term_step weight.unary_step layer))
+    both Drives (sym (term_rolls text_of_forms layer))
+    (sym (term_rolls weight_of_forms layer))
 
 rolled-Unary : (layer : Unary-F Conjunction Equality Expression Place Primary Relation Sum Term Unary)
-    → Drives (text.unary_step (map-Unary Conjunction Equality Expression Place Primary Relation Sum Term Unary Reads Reads Reads Reads Reads Reads Reads Reads Reads conjunction_text equality_text expression_text place_text primary_text relation_text sum_text term_text unary_text layer))
-    (weight.unary_step (map-Unary Conjunction Equality Expression Place Primary Relation Sum Term Unary Weighs Weighs Weighs Weighs Weighs Weighs Weighs Weighs Weighs conjunction_weighs equality_weighs operand_weighs place_weighs primary_weighs relation_weighs sum_weighs term_weighs unary_weighs layer))
+    → Drives (unary_step text_of_forms (map-Unary Conjunction Equality Expression Place Primary Relation Sum Term Unary Reads Reads Reads Reads Reads Reads Reads Reads Reads conjunction_text equality_text expression_text place_text primary_text relation_text sum_text term_text unary_text layer))
+    (unary_step weight_of_forms (map-Unary Conjunction Equality Expression Place Primary Relation Sum Term Unary Weighs Weighs Weighs Weighs Weighs Weighs Weighs Weighs Weighs conjunction_weighs equality_weighs operand_weighs place_weighs primary_weighs relation_weighs sum_weighs term_weighs unary_weighs layer))
     → Good-Unary (roll-Unary layer)
 rolled-Unary layer =
-    both Drives (sym (fold-roll-Unary Reads Reads Reads Reads Reads Reads Reads Reads Reads text.conjunction_step text.equality_step text.expression_step text.place_step text.primary_step text.relation_step text.sum_step text.term_step text.unary_step layer))
-    (sym (fold-roll-Unary Weighs Weighs Weighs Weighs Weighs Weighs Weighs Weighs Weighs weight.conjunction_step weight.equality_step weight.expression_step weight.place_step weight.primary_step weight.relation_step weight.sum_step weight.term_step weight.unary_step layer))
+    both Drives (sym (unary_rolls text_of_forms layer))
+    (sym (unary_rolls weight_of_forms layer))
 
 each_drives : (es : List With-Expression) → Each Drives (map expression_text (map (λ e. e.0) es)) (map operand_weighs (map (λ e. e.0) es))
 each_drives [] = none

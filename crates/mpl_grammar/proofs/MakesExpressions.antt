@@ -25,6 +25,8 @@ use Rattle.mpl_grammar.specs.Internal.Kinds.{is_any_name, is_any_number, is_cons
 use Rattle.mpl_grammar.proofs.Chains.{Pieces, makes-chain}
 use Rattle.mpl_grammar.proofs.Makes.{Makes, ◌▸◌, all_separated_if_any, named, past, place_of, reads-keyword, reads-mark, reads-mark_on, reads-name, reads-node, reads-value, rest_at, value_of}
 use Rattle.mpl_grammar.proofs.Parts.{Around, Brackets, Operands, around, brackets, operands}
+use Rattle.mpl_mean.proofs.ExpressionInduction.{unary_rolls, place_rolls, primary_rolls}
+use Rattle.mpl_mean.specs.Text.ExpressionText.{text_of_forms}
 
 -- ---- targets and places
 
@@ -48,7 +50,7 @@ makes-whole {t = t} {ts = ts} {rest = rest} p = record {
   make = λ l n.
       let a = p.make l (n + 1) in
       let layer = Place-F.Whole (place_of t n a.last) a.tree in
-      record { tree = roll-Place layer; last = a.last; next = a.next; reads = told (sym (fold-roll-Place Reads Reads Reads Reads Reads Reads Reads Reads Reads text.conjunction_step text.equality_step text.expression_step text.place_step text.primary_step text.relation_step text.sum_step text.term_step text.unary_step layer)) (reads-node t ts l n _ (rest_at rest a.last a.next) (a.reads)) };
+      record { tree = roll-Place layer; last = a.last; next = a.next; reads = told (sym (place_rolls text_of_forms layer)) (reads-node t ts l n _ (rest_at rest a.last a.next) (a.reads)) };
 }
 
 pub makes-element : {t : Token} {ts : List Token} (o : Token) {us : List Token} (c : Token) {rest : List Token} → Makes target_text (t ∷ ts) (o ∷ us) → is_mark m.OpenBracket o.kind ≡ true → Makes expression_text us (c ∷ rest) → is_mark m.CloseBracket c.kind ≡ true → Makes place_text (t ∷ ts) rest
@@ -57,7 +59,7 @@ makes-element {t = t} {ts = ts} o {us = us} c {rest = rest} p h q f = record {
       let a = p.make l (n + 1) in
       let b = q.make o.span.to a.next in
       let layer = Place-F.Element (place_of t n c.span.to) o.line a.tree b.tree in
-      record { tree = roll-Place layer; last = c.span.to; next = b.next; reads = told (sym (fold-roll-Place Reads Reads Reads Reads Reads Reads Reads Reads Reads text.conjunction_step text.equality_step text.expression_step text.place_step text.primary_step text.relation_step text.sum_step text.term_step text.unary_step layer)) (reads-node t ts l n _ (rest_at rest c.span.to b.next) (a.reads ▸ reads-mark_on m.OpenBracket o us a.last a.next h ▸ b.reads ▸ reads-mark m.CloseBracket c rest b.last b.next f)) };
+      record { tree = roll-Place layer; last = c.span.to; next = b.next; reads = told (sym (place_rolls text_of_forms layer)) (reads-node t ts l n _ (rest_at rest c.span.to b.next) (a.reads ▸ reads-mark_on m.OpenBracket o us a.last a.next h ▸ b.reads ▸ reads-mark m.CloseBracket c rest b.last b.next f)) };
 }
 
 -- ---- primaries
@@ -66,28 +68,28 @@ pub makes-number : (t : Token) (rest : List Token) → is_any_number t.kind ≡ 
 makes-number t rest h = record {
   make = λ l n.
       let layer = Primary-F.Number (place_of t n t.span.to) (value_of t.kind) in
-      record { tree = roll-Primary layer; last = t.span.to; next = (n + 1); reads = told (sym (fold-roll-Primary Reads Reads Reads Reads Reads Reads Reads Reads Reads text.conjunction_step text.equality_step text.expression_step text.place_step text.primary_step text.relation_step text.sum_step text.term_step text.unary_step layer)) (reads-node t rest l n _ (rest_at rest t.span.to (n + 1)) (reads-value t rest l (n + 1) h)) };
+      record { tree = roll-Primary layer; last = t.span.to; next = (n + 1); reads = told (sym (primary_rolls text_of_forms layer)) (reads-node t rest l n _ (rest_at rest t.span.to (n + 1)) (reads-value t rest l (n + 1) h)) };
 }
 
 pub makes-true : (t : Token) (rest : List Token) → is_keyword word.True t.kind ≡ true → Makes primary_text (t ∷ rest) rest
 makes-true t rest h = record {
   make = λ l n.
       let layer = Primary-F.True (place_of t n t.span.to) in
-      record { tree = roll-Primary layer; last = t.span.to; next = (n + 1); reads = told (sym (fold-roll-Primary Reads Reads Reads Reads Reads Reads Reads Reads Reads text.conjunction_step text.equality_step text.expression_step text.place_step text.primary_step text.relation_step text.sum_step text.term_step text.unary_step layer)) (reads-node t rest l n _ (rest_at rest t.span.to (n + 1)) (reads-keyword word.True t rest l (n + 1) h)) };
+      record { tree = roll-Primary layer; last = t.span.to; next = (n + 1); reads = told (sym (primary_rolls text_of_forms layer)) (reads-node t rest l n _ (rest_at rest t.span.to (n + 1)) (reads-keyword word.True t rest l (n + 1) h)) };
 }
 
 pub makes-false : (t : Token) (rest : List Token) → is_keyword word.False t.kind ≡ true → Makes primary_text (t ∷ rest) rest
 makes-false t rest h = record {
   make = λ l n.
       let layer = Primary-F.False (place_of t n t.span.to) in
-      record { tree = roll-Primary layer; last = t.span.to; next = (n + 1); reads = told (sym (fold-roll-Primary Reads Reads Reads Reads Reads Reads Reads Reads Reads text.conjunction_step text.equality_step text.expression_step text.place_step text.primary_step text.relation_step text.sum_step text.term_step text.unary_step layer)) (reads-node t rest l n _ (rest_at rest t.span.to (n + 1)) (reads-keyword word.False t rest l (n + 1) h)) };
+      record { tree = roll-Primary layer; last = t.span.to; next = (n + 1); reads = told (sym (primary_rolls text_of_forms layer)) (reads-node t rest l n _ (rest_at rest t.span.to (n + 1)) (reads-keyword word.False t rest l (n + 1) h)) };
 }
 
 pub makes-own : (t : Token) (rest : List Token) → is_keyword word.Own t.kind ≡ true → Makes primary_text (t ∷ rest) rest
 makes-own t rest h = record {
   make = λ l n.
       let layer = Primary-F.Own (place_of t n t.span.to) in
-      record { tree = roll-Primary layer; last = t.span.to; next = (n + 1); reads = told (sym (fold-roll-Primary Reads Reads Reads Reads Reads Reads Reads Reads Reads text.conjunction_step text.equality_step text.expression_step text.place_step text.primary_step text.relation_step text.sum_step text.term_step text.unary_step layer)) (reads-node t rest l n _ (rest_at rest t.span.to (n + 1)) (reads-keyword word.Own t rest l (n + 1) h)) };
+      record { tree = roll-Primary layer; last = t.span.to; next = (n + 1); reads = told (sym (primary_rolls text_of_forms layer)) (reads-node t rest l n _ (rest_at rest t.span.to (n + 1)) (reads-keyword word.Own t rest l (n + 1) h)) };
 }
 
 pub makes-read : {t : Token} {ts rest : List Token} → Makes place_text (t ∷ ts) rest → Makes primary_text (t ∷ ts) rest
@@ -95,14 +97,14 @@ makes-read {t = t} {ts = ts} {rest = rest} p = record {
   make = λ l n.
       let a = p.make l (n + 1) in
       let layer = Primary-F.Read (place_of t n a.last) a.tree in
-      record { tree = roll-Primary layer; last = a.last; next = a.next; reads = told (sym (fold-roll-Primary Reads Reads Reads Reads Reads Reads Reads Reads Reads text.conjunction_step text.equality_step text.expression_step text.place_step text.primary_step text.relation_step text.sum_step text.term_step text.unary_step layer)) (reads-node t ts l n _ (rest_at rest a.last a.next) (a.reads)) };
+      record { tree = roll-Primary layer; last = a.last; next = a.next; reads = told (sym (primary_rolls text_of_forms layer)) (reads-node t ts l n _ (rest_at rest a.last a.next) (a.reads)) };
 }
 
 pub makes-input : (t : Token) {ts rest : List Token} → is_keyword word.Input t.kind ≡ true → Brackets ts rest → Makes primary_text (t ∷ ts) rest
 makes-input t {rest = rest} h (brackets a b e f) = record {
   make = λ l n.
       let layer = Primary-F.Input (place_of t n b.span.to) in
-      record { tree = roll-Primary layer; last = b.span.to; next = (n + 1); reads = told (sym (fold-roll-Primary Reads Reads Reads Reads Reads Reads Reads Reads Reads text.conjunction_step text.equality_step text.expression_step text.place_step text.primary_step text.relation_step text.sum_step text.term_step text.unary_step layer)) (reads-node t (a ∷ b ∷ rest) l n _ (rest_at rest b.span.to (n + 1)) (reads-keyword word.Input t (a ∷ b ∷ rest) l (n + 1) h ▸ reads-mark m.OpenParenthesis a (b ∷ rest) t.span.to (n + 1) e ▸ reads-mark m.CloseParenthesis b rest a.span.to (n + 1) f)) };
+      record { tree = roll-Primary layer; last = b.span.to; next = (n + 1); reads = told (sym (primary_rolls text_of_forms layer)) (reads-node t (a ∷ b ∷ rest) l n _ (rest_at rest b.span.to (n + 1)) (reads-keyword word.Input t (a ∷ b ∷ rest) l (n + 1) h ▸ reads-mark m.OpenParenthesis a (b ∷ rest) t.span.to (n + 1) e ▸ reads-mark m.CloseParenthesis b rest a.span.to (n + 1) f)) };
 }
 
 pub makes-plain : (t : Token) {ts rest : List Token} → is_any_name t.kind ≡ true → Around m.OpenParenthesis m.CloseParenthesis (all_separated_if_any expression_text) ts rest → Makes primary_text (t ∷ ts) rest
@@ -110,7 +112,7 @@ makes-plain t {rest = rest} h (around a b {ts = us} e p f) = record {
   make = λ l n.
       let c = p.make a.span.to (n + 1) in
       let layer = Primary-F.CallPlain (place_of t n b.span.to) (named t) c.tree in
-      record { tree = roll-Primary layer; last = b.span.to; next = c.next; reads = told (sym (fold-roll-Primary Reads Reads Reads Reads Reads Reads Reads Reads Reads text.conjunction_step text.equality_step text.expression_step text.place_step text.primary_step text.relation_step text.sum_step text.term_step text.unary_step layer)) (reads-node t (a ∷ us) l n _ (rest_at rest b.span.to c.next) (reads-name t (a ∷ us) l (n + 1) h ▸ reads-mark m.OpenParenthesis a us t.span.to (n + 1) e ▸ c.reads ▸ reads-mark m.CloseParenthesis b rest c.last c.next f)) };
+      record { tree = roll-Primary layer; last = b.span.to; next = c.next; reads = told (sym (primary_rolls text_of_forms layer)) (reads-node t (a ∷ us) l n _ (rest_at rest b.span.to c.next) (reads-name t (a ∷ us) l (n + 1) h ▸ reads-mark m.OpenParenthesis a us t.span.to (n + 1) e ▸ c.reads ▸ reads-mark m.CloseParenthesis b rest c.last c.next f)) };
 }
 
 pub makes-parenthesized : {ts rest : List Token} → Around m.OpenParenthesis m.CloseParenthesis expression_text ts rest → Makes primary_text ts rest
@@ -118,7 +120,7 @@ makes-parenthesized {rest = rest} (around t b {ts = us} e p f) = record {
   make = λ l n.
       let c = p.make t.span.to (n + 1) in
       let layer = Primary-F.Parenthesized (place_of t n b.span.to) c.tree in
-      record { tree = roll-Primary layer; last = b.span.to; next = c.next; reads = told (sym (fold-roll-Primary Reads Reads Reads Reads Reads Reads Reads Reads Reads text.conjunction_step text.equality_step text.expression_step text.place_step text.primary_step text.relation_step text.sum_step text.term_step text.unary_step layer)) (reads-node t us l n _ (rest_at rest b.span.to c.next) (reads-mark m.OpenParenthesis t us l (n + 1) e ▸ c.reads ▸ reads-mark m.CloseParenthesis b rest c.last c.next f)) };
+      record { tree = roll-Primary layer; last = b.span.to; next = c.next; reads = told (sym (primary_rolls text_of_forms layer)) (reads-node t us l n _ (rest_at rest b.span.to c.next) (reads-mark m.OpenParenthesis t us l (n + 1) e ▸ c.reads ▸ reads-mark m.CloseParenthesis b rest c.last c.next f)) };
 }
 
 either : (b c : Bool) → (b || c) ≡ true → (b ≡ true) ⊎ (c ≡ true)
@@ -142,7 +144,7 @@ makes-primary {t = t} {ts = ts} {rest = rest} p = record {
   make = λ l n.
       let a = p.make l (n + 1) in
       let layer = Unary-F.OnePrimary (place_of t n a.last) a.tree in
-      record { tree = roll-Unary layer; last = a.last; next = a.next; reads = told (sym (fold-roll-Unary Reads Reads Reads Reads Reads Reads Reads Reads Reads text.conjunction_step text.equality_step text.expression_step text.place_step text.primary_step text.relation_step text.sum_step text.term_step text.unary_step layer)) (reads-node t ts l n _ (rest_at rest a.last a.next) (a.reads)) };
+      record { tree = roll-Unary layer; last = a.last; next = a.next; reads = told (sym (unary_rolls text_of_forms layer)) (reads-node t ts l n _ (rest_at rest a.last a.next) (a.reads)) };
 }
 
 unary_of_kind : (k : TokenKind) → is_unary k ≡ true → (o : UnaryOperator) × (is_mark (unary_mark o) k ≡ true)
@@ -157,7 +159,7 @@ makes-apply t {ts = ts} {rest = rest} h p = record {
       let found = unary_of_kind t.kind h in
       let a = p.make t.span.to (n + 1) in
       let layer = Unary-F.Apply (place_of t n a.last) t.line found.0 a.tree in
-      record { tree = roll-Unary layer; last = a.last; next = a.next; reads = told (sym (fold-roll-Unary Reads Reads Reads Reads Reads Reads Reads Reads Reads text.conjunction_step text.equality_step text.expression_step text.place_step text.primary_step text.relation_step text.sum_step text.term_step text.unary_step layer)) (reads-node t ts l n _ (rest_at rest a.last a.next) (reads-mark_on (unary_mark found.0) t ts l (n + 1) found.1 ▸ a.reads)) };
+      record { tree = roll-Unary layer; last = a.last; next = a.next; reads = told (sym (unary_rolls text_of_forms layer)) (reads-node t ts l n _ (rest_at rest a.last a.next) (reads-mark_on (unary_mark found.0) t ts l (n + 1) found.1 ▸ a.reads)) };
 }
 
 -- an expression, from its operands
