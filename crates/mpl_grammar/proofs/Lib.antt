@@ -21,5 +21,4 @@ pub mod Growth
 pub mod FaultsFit
 pub mod WeightLaws
 pub mod Stepping
-pub mod Behind
 pub mod OneFault
