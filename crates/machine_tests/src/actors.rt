@@ -2,9 +2,13 @@ use mdf_actor::{ActorStatus, Actors};
 use std::test::Fail;
 
 #[test]
-fn an_added_actor_waits(rt: HostRuntime) -> Result<(), Fail> {
+fn ended_actor_stays_ended(rt: HostRuntime) -> Result<(), Fail> {
     let mut actors = Actors::new(rt.alloc());
-    let actor = actors.add(2)?;
-    assert_eq!(rt; actors.status(actor), ActorStatus::Waiting(2));
+    let first = actors.add(2)?;
+    assert_eq!(rt; actors.status(first), ActorStatus::Waiting(2));
+    actors.set(first, ActorStatus::Ended);
+    let second = actors.add(0)?;
+    assert_eq!(rt; actors.status(first), ActorStatus::Ended);
+    assert_eq!(rt; actors.status(second), ActorStatus::Waiting(0));
     Ok(())
 }

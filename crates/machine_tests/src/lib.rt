@@ -7,3 +7,5 @@ mod actors;
 mod futures;
 #[cfg(test)]
 mod matching;
+#[cfg(test)]
+mod values;

@@ -1,0 +1,3 @@
+mod Inserted
+pub mod Fates
+pub mod Rows
