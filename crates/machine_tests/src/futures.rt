@@ -55,6 +55,12 @@ fn forwarded_result_becomes_known(rt: HostRuntime) -> Result<(), Fail> {
     assert_eq!(rt; futures.state(4), ResultState::Forwarded(6));
     assert_eq!(rt; futures.take_at(0), None);
     futures.give(4, Give::Known(known));
-    assert_eq!(rt; futures.take_at(0), Some(Due { consumer: FIRST, from: 4 }));
+    assert_eq!(rt;
+        futures.take_at(0),
+        Some(Due {
+            consumer: FIRST,
+            from: 4
+        })
+    );
     Ok(())
 }

@@ -1,6 +1,6 @@
 -- The entries of the results: what a look-up finds, and how many consumers wait as they change.
-use Rattle.std.proofs.Common.{◌≡◌, ℕ, zero, suc, ◌+◌, ◌≤◌, List, [], ◌∷◌, refl, ap, sym, subst, ◌∙◌, length, arith}
-use Rattle.std.specs.Prelude.{cond, Some, None, Option, IsSome, sum_by}
+use Rattle.std.proofs.Common.{◌≡◌, ℕ, ◌+◌, ◌≤◌, List, [], ◌∷◌, ap, sym, subst, ◌∙◌, length, arith}
+use Rattle.std.specs.Prelude.{Some, None, Option, IsSome}
 use Rattle.std.specs.Ordering.{nat_cmp, match_ordering}
 use Rattle.std.specs.declared.cmp.Ordering.{Ordering}
 use Rattle.std.specs.declared.cmp.Ordering.TheVariants.{Less, Equal, Greater}

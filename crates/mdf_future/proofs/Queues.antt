@@ -1,7 +1,7 @@
 -- What is due follows from the calls: an actor's result is known where it was settled, and else has the consumers that
 -- were added to it.
-use Rattle.std.proofs.Common.{◌≡◌, ◌⊎◌, ℕ, Bool, true, false, List, [], ◌∷◌, ◌++◌, refl, ap, ap₂, sym, subst, ◌∙◌, inl, inr}
-use Rattle.std.specs.Prelude.{cond, Option, Some, None, IsSome, ◌==◌, ◌||◌, IsTrue, if◌then◌else◌, remove}
+use Rattle.std.proofs.Common.{◌≡◌, ℕ, Bool, true, false, List, [], ◌∷◌, ◌++◌, refl, ap, ap₂, sym, subst, ◌∙◌}
+use Rattle.std.specs.Prelude.{cond, Option, Some, None, IsSome, ◌||◌, if◌then◌else◌, remove}
 use Rattle.std.specs.Option.{option_map_or}
 use Rattle.std.specs.declared.cmp.Ordering.{Ordering}
 use Rattle.std.specs.declared.cmp.Ordering.TheVariants.{Less, Equal, Greater}
@@ -12,14 +12,13 @@ use Rattle.std.proofs.lemmas.Bool.{cases_eq, ne_eqb, eq-eqb}
 use Rattle.std.proofs.Math.Logic.{⊎_elim}
 use Rattle.mpl_value.specs.declared.known.Known.{Known}
 use Rattle.mdf_future.specs.declared.consumer.Consumer.{Consumer}
-use Rattle.mdf_future.specs.declared.consumer.Due.{Due}
 use Rattle.mdf_future.specs.declared.future.Fate.{Fate}
 use Rattle.mdf_future.specs.declared.future.Fate.TheVariants as fate
 use Rattle.mdf_future.specs.declared.future.Future.{Future}
 use Rattle.mdf_future.specs.declared.future.Give.{Give}
 use Rattle.mdf_future.specs.declared.future.Give.TheVariants as give
 use Rattle.mdf_future.specs.Consumers.{deliveries}
-use Rattle.mdf_future.specs.Results.{ResultTable, is_known, may_become, may_give, consumers_of, waited_at, given}
+use Rattle.mdf_future.specs.Results.{ResultTable, is_known, may_become, consumers_of, waited_at, given}
 use Rattle.mdf_future.specs.Calls.{Call, Opens, Waits, Gives, Takes, after, AreAllowed, was_settled, added_to, queue}
 
 -- what a map has at a key after an insertion, by whether it is the same

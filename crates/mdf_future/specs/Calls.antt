@@ -1,5 +1,5 @@
 -- The calls that change results and what is due, the newest first: what they leave, and what is due by the calls alone.
-use Rattle.std.specs.Prelude.{◌≡◌, ℕ, Bool, true, false, ◌==◌, ◌||◌, IsTrue, List, [], ◌∷◌, ◌++◌, remove, None, IsSome, if◌then◌else◌}
+use Rattle.std.specs.Prelude.{◌≡◌, ℕ, Bool, false, ◌==◌, ◌||◌, IsTrue, List, [], ◌∷◌, ◌++◌, remove, None, IsSome, if◌then◌else◌}
 use Rattle.std.specs.FinMap.{get, empty}
 use Rattle.mdf_future.specs.Consumers.{deliveries}
 use Rattle.mdf_future.specs.Results.{ResultTable, opened, waited, given, may_give}

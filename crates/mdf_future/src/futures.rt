@@ -76,7 +76,7 @@ impl Futures {
         let places = self.waiting.checked_add(1).ok_or(NoMemory)?;
         self.due.reserve(places)?;
         let Some(future) = self.results.get_mut(&on) else {
-            return Ok(());
+            unreachable!()
         };
         if future.fate.is_known() {
             deliver(&mut self.due, on, [consumer].as_slice());
@@ -142,7 +142,7 @@ impl Futures {
         ensures { self.new ≡ settled self.old actor datum }
     {
         let Some(future) = self.results.get_mut(&actor) else {
-            return;
+            unreachable!()
         };
         let settled = Future {
             fate: Fate::Known(datum),
@@ -158,7 +158,7 @@ impl Futures {
         ensures { self.new ≡ forwarded self.old actor other }
     {
         let Some(future) = self.results.get_mut(&actor) else {
-            return;
+            unreachable!()
         };
         future.forward(other);
     }

@@ -1,4 +1,4 @@
-use Rattle.std.proofs.Common.{◌≡◌, ◌+◌, ◌≤◌, ◌++◌, length, drop}
+use Rattle.std.proofs.Common.{◌≡◌, ◌+◌, ◌≤◌, ◌++◌, drop}
 use Rattle.std.specs.VecDeque.{deque_len, deque_capacity}
 use Rattle.mdf_future.specs.Consumers.{deliveries}
 use Rattle.mdf_future.proofs.consumer.deliver.Given as goal

@@ -1,6 +1,6 @@
 -- The consumers go on waiting.
 use Rattle.std.proofs.Common.{◌≡◌, ap, ap₂, refl, subst, sym, ◌∙◌, length, arith}
-use Rattle.std.specs.Prelude.{Some, None, IsSome, []}
+use Rattle.std.specs.Prelude.{Some, IsSome, []}
 use Rattle.std.specs.Option.{option_map_or}
 use Rattle.std.specs.FinMap.{insert}
 use Rattle.mpl_value.proofs.Table.{updated}
@@ -9,11 +9,11 @@ use Rattle.mdf_future.specs.declared.future.Fate.TheVariants.{Forwarded}
 use Rattle.mdf_future.proofs.Entries.{table, future, found, no_result, waiting-written}
 use Rattle.mdf_future.proofs.futures.Futures.forward.Goals as goal
 
-pub returns-in_default : goal.returns-in_default
-returns-in_default c = absurd (no_result _ c.args.self.now.results c.args.actor (ap (λ t. t.results) c.self.view_is) c.in_default.ensures.value c.requires)
+pub unreachable-requires : goal.unreachable-requires
+unreachable-requires c = no_result _ c.args.self.now.results c.args.actor (ap (λ t. t.results) c.self.view_is) c.in_default.ensures.value c.requires
 
-pub invariant_of-self-2 : goal.invariant_of-self-2
-invariant_of-self-2 c = record {
+pub invariant_of-self : goal.invariant_of-self
+invariant_of-self c = record {
   counted =
       let same = waiting-written _ _ c.args.actor c.in-Some.future.now c.forward.new.self c.in-Some.ensures.value (c.get_mut.follows.holds c.forward.new.self).0 in
       omega (arith, same, ap (λ f. length f.consumers) c.forward.ensures, c.self.invariant.counted);

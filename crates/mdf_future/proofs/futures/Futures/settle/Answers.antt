@@ -1,21 +1,20 @@
 -- All consumers of the result leave it; those that are served go to the end of the queue.
-use Rattle.std.proofs.Common.{◌≡◌, ◌+◌, ◌++◌, ap, ap₂, refl, subst, sym, ◌∙◌, length, arith}
-use Rattle.std.specs.Prelude.{Some, None, IsSome, []}
+use Rattle.std.proofs.Common.{◌≡◌, ◌++◌, ap, ap₂, refl, subst, sym, ◌∙◌, length, arith}
+use Rattle.std.specs.Prelude.{Some, IsSome, []}
 use Rattle.std.specs.Option.{option_map_or}
 use Rattle.std.specs.FinMap.{insert}
 use Rattle.mpl_value.proofs.Table.{updated}
 use Rattle.mdf_future.specs.Consumers.{deliveries}
 use Rattle.mdf_future.specs.Results.{consumers_of}
-use Rattle.mdf_future.specs.Room.{waiting_in}
 use Rattle.mdf_future.specs.declared.future.Fate.TheVariants.{Known}
 use Rattle.mdf_future.proofs.Entries.{table, future, found, no_result, waiting-written}
 use Rattle.mdf_future.proofs.futures.Futures.settle.Goals as goal
 
-pub returns-in_default : goal.returns-in_default
-returns-in_default c = absurd (no_result _ c.args.self.now.results c.args.actor (ap (λ t. t.results) c.self.view_is) c.in_default.ensures.value c.requires)
+pub unreachable-requires : goal.unreachable-requires
+unreachable-requires c = no_result _ c.args.self.now.results c.args.actor (ap (λ t. t.results) c.self.view_is) c.in_default.ensures.value c.requires
 
-pub invariant_of-self-2 : goal.invariant_of-self-2
-invariant_of-self-2 c =
+pub invariant_of-self : goal.invariant_of-self
+invariant_of-self c =
     let fewer = waiting-written _ _ c.args.actor c.in-Some.future.now c.replace-open.new.dest c.in-Some.ensures.value (c.get_mut.follows.holds c.replace-open.new.dest).0 in
     let left = ap length c.new.ensures in
     let replaced = ap (λ f. length f.consumers) c.replace-open.ensures.after in

@@ -12,7 +12,7 @@ use Rattle.mdf_future.specs.Results.{ResultTable, is_known, waited, waited_at}
 use Rattle.mdf_future.specs.Room.{waiting_in}
 use Rattle.mdf_future.specs.declared.consumer.Consumer.{Consumer}
 use Rattle.mdf_future.specs.declared.future.Future.{Future}
-use Rattle.mdf_future.proofs.Entries.{Entries, table, future, found, no_result, waiting-written, kept}
+use Rattle.mdf_future.proofs.Entries.{table, future, found, no_result, waiting-written, kept}
 use Rattle.mdf_future.proofs.futures.Futures.wait.Goals as goal
 
 -- what is so is so where there is an error
@@ -37,8 +37,8 @@ waited-open t on c f here unknown =
     ap (λ b. if b then table t.results (t.due ++ deliveries on (c ∷ [])) else table (insert t.results on (future f.fate (f.consumers ++ c ∷ []))) t.due) (sym unknown)
     ∙ ap (waited_at t on c) (sym here)
 
-pub returns-in_default-clause-ok : goal.returns-in_default-clause-ok
-returns-in_default-clause-ok c = absurd (no_result _ c.args.self.now.results c.args.on (ap (λ t. t.results) c.self.view_is) c.in_default.ensures.value c.requires)
+pub unreachable-requires : goal.unreachable-requires
+unreachable-requires c = no_result _ c.args.self.now.results c.args.on (ap (λ t. t.results) c.self.view_is) c.in_default.ensures.value c.requires
 
 pub invariant_of-self-then-is_known : goal.invariant_of-self-then-is_known
 invariant_of-self-then-is_known c =
