@@ -1,19 +1,20 @@
 //! What is written and answered when files and outputs fail.
-use mentat_cmd::{Ending, Status, quiet_command};
+use mentat_cmd::{Ending, Refusal, Status, quiet_command};
 use mentat_io::{MemShelf, MemSink, MemSource, Text};
-use mpl_value::{Bytes, NoMemory, Words};
+use mpl_value::{Bytes, NoMemory, Trap, TrapKind, Words};
 use std::alloc::Global;
 use std::test::Fail;
 
-/// Runs a source from a shelf and over an output of which the calls with these numbers fail. The output takes at most so
-/// many bytes at a call.
+/// Runs a source from a shelf and over an output and an error stream of which the calls with these numbers fail. The
+/// output takes at most so many bytes at a call, the error stream one.
 fn run_over(
     alloc: Global,
     source: &str,
     shelf_fails: &[i64],
     most: u32,
     output_fails: &[i64],
-) -> Result<(Ending, MemSink), NoMemory> {
+    error_fails: &[i64],
+) -> Result<(Ending, MemSink, MemSink), NoMemory> {
     let mut shelf = MemShelf::new(alloc, Words::from_slice(alloc, shelf_fails)?);
     let name = Text::of(alloc, "a.mpl")?;
     shelf.add_file(name, Bytes::from_slice(alloc, source.as_bytes())?)?;
@@ -22,7 +23,7 @@ fn run_over(
     words.push(Text::of(alloc, "a.mpl")?)?;
     let mut input = MemSource::new(Bytes::new(alloc), 1, Words::new(alloc));
     let mut out = MemSink::new(alloc, most.max(1), Words::from_slice(alloc, output_fails)?);
-    let mut err = MemSink::new(alloc, 1, Words::new(alloc));
+    let mut err = MemSink::new(alloc, 1, Words::from_slice(alloc, error_fails)?);
     let ending = quiet_command(
         alloc,
         words.as_slice(),
@@ -31,7 +32,7 @@ fn run_over(
         &mut out,
         &mut err,
     );
-    Ok((ending, out))
+    Ok((ending, out, err))
 }
 
 /// Of `12` and `34 5` in two lines the bytes before the failing call are written, and the run's turns are told.
@@ -47,8 +48,18 @@ fn each_call_of_an_output_may_fail(rt: HostRuntime) -> Result<(), Fail> {
         (100, 1, Status::WriteFault, ""),
         (100, 2, Status::Done, "12\n34 5\n"),
     ] {
-        let (ending, out) = run_over(rt.alloc(), source, &[], most, &[failing])?;
+        let (ending, out, err) = run_over(rt.alloc(), source, &[], most, &[failing], &[])?;
+        let said = if status == Status::Done {
+            ""
+        } else {
+            "mentat: write fault\n"
+        };
         assert_eq!(rt; ending, Ending { status, turns: 1 }, "{most} {failing}");
+        assert_eq!(rt;
+            err.written().as_slice(),
+            said.as_bytes(),
+            "{most} {failing}"
+        );
         assert_eq!(rt;
             out.written().as_slice(),
             written.as_bytes(),
@@ -60,13 +71,65 @@ fn each_call_of_an_output_may_fail(rt: HostRuntime) -> Result<(), Fail> {
 
 #[test]
 fn a_shelf_may_fail(rt: HostRuntime) -> Result<(), Fail> {
-    for (failing, status, turns, written) in [
-        (1, Status::ReadFault, 0, ""),
-        (2, Status::Done, 1, "12\n"),
+    for (failing, status, turns, written, said) in [
+        (1, Status::ReadFault, 0, "", "mentat: read fault\n"),
+        (2, Status::Done, 1, "12\n", ""),
     ] {
-        let (ending, out) = run_over(rt.alloc(), "int main() { print(12); }", &[failing], 1, &[])?;
+        let source = "int main() { print(12); }";
+        let (ending, out, err) = run_over(rt.alloc(), source, &[failing], 1, &[], &[])?;
         assert_eq!(rt; ending, Ending { status, turns });
         assert_eq!(rt; out.written().as_slice(), written.as_bytes());
+        assert_eq!(rt; err.written().as_slice(), said.as_bytes());
+    }
+    Ok(())
+}
+
+/// Of a message the bytes before the failing call are written. Behind the lines of a run that is a write fault, and else
+/// the status stays.
+#[test]
+fn an_error_stream_may_fail(rt: HostRuntime) -> Result<(), Fail> {
+    let divided = Trap {
+        kind: TrapKind::DivZero,
+        line: 1,
+    };
+    for (source, failing, status, turns, said) in [
+        ("int main() { print(1 / 0); }", 1, Status::WriteFault, 1, ""),
+        (
+            "int main() { print(1 / 0); }",
+            9,
+            Status::WriteFault,
+            1,
+            "mentat: ",
+        ),
+        (
+            "int main() { print(1 / 0); }",
+            31,
+            Status::WriteFault,
+            1,
+            "mentat: trap DivZero at line 1",
+        ),
+        (
+            "int main() { print(1 / 0); }",
+            32,
+            Status::Trap(divided),
+            1,
+            "mentat: trap DivZero at line 1\n",
+        ),
+        (
+            "int main( {",
+            9,
+            Status::Refused(Refusal::Syntax(10)),
+            0,
+            "mentat: ",
+        ),
+    ] {
+        let (ending, _, err) = run_over(rt.alloc(), source, &[], 1, &[], &[failing])?;
+        assert_eq!(rt; ending, Ending { status, turns }, "{source} {failing}");
+        assert_eq!(rt;
+            err.written().as_slice(),
+            said.as_bytes(),
+            "{source} {failing}"
+        );
     }
     Ok(())
 }

@@ -1,5 +1,5 @@
 -- Of one source there is one exact answer.
-use Rattle.std.proofs.Common.{◌≡◌, ◌≤◌, ◌<◌, ℕ, List, [], Option, Result, true, Ok, Some, refl, sym, ap, subst, ◌∙◌, arith}
+use Rattle.std.proofs.Common.{◌≡◌, ◌≤◌, ◌<◌, ℕ, List, [], Option, Result, true, Ok, Err, Some, refl, sym, ap, subst, ◌∙◌, arith}
 use Rattle.std.specs.Prelude.{length}
 use Rattle.mpl_ast.specs.declared.program.Program.{Program}
 use Rattle.mpl_ast.specs.declared.token.Token.{Token}
@@ -9,19 +9,41 @@ use Rattle.mpl_value.specs.declared.body.Yield.{Yield}
 use Rattle.mpl_mean.specs.FirstForms.FirstForm.{is_first_form}
 use Rattle.mpl_mean.specs.Limits.{most_source_bytes, usual_budget}
 use Rattle.mpl_mean.specs.Meaning.DirectRun.{direct_run}
-use Rattle.mpl_mean.specs.Text.Lexemes.{tokens_of}
+use Rattle.mpl_mean.specs.Text.Lexemes.{LexicalFault, BadByte, OpenComment, WideNumber, tokens_of}
+use Rattle.mpl_mean.specs.Text.ParseFaults.{HasLightProgram, IsSyntaxFault, IsTooDeep}
 use Rattle.mpl_mean.specs.Text.ProgramText.{spells}
 use Rattle.mentat_io.specs.Shelf.{Files}
 use Rattle.mentat_cmd.specs.Answer.{IsCause, IsExact, IsRead}
-use Rattle.mentat_cmd.specs.Program.{IsBuilt, IsUnbuilt, Runs}
+use Rattle.mentat_cmd.specs.Program.{HasTree, IsBuilt, IsRefused, IsUnbuilt, Runs}
+use Rattle.mentat_cmd.specs.declared.status.Refusal.{Refusal}
+use Rattle.mentat_cmd.specs.declared.status.Refusal.TheVariants as refusal
 use Rattle.mentat_cmd.specs.declared.status.Status.{Status}
 use Rattle.mentat_cmd.specs.declared.status.Status.TheVariants as status
 
 abbrev pub OneTree : Type 0
 OneTree = (p q : Program) (tokens : List Token) → is_first_form p ≡ true → is_first_form q ≡ true → spells p tokens ≡ true → spells q tokens ≡ true → p ≡ q
 
+-- of tokens there is at most one fault
+pub record OneFault : Type 0 where
+  pub syntax : (tokens : List Token) (end a b : ℕ) → IsSyntaxFault tokens end a → IsSyntaxFault tokens end b → a ≡ b
+  pub depth : (tokens : List Token) (a b : ℕ) → IsTooDeep tokens a → IsTooDeep tokens b → a ≡ b
+  pub not_both : (tokens : List Token) (end a b : ℕ) → IsSyntaxFault tokens end a → IsTooDeep tokens b → ⊥
+  pub no_syntax : (tokens : List Token) (end at : ℕ) → HasLightProgram tokens → IsSyntaxFault tokens end at → ⊥
+  pub no_depth : (tokens : List Token) (at : ℕ) → HasLightProgram tokens → IsTooDeep tokens at → ⊥
+
 pub ok_same : {A E : Type 0} (r : Result A E) (x y : A) → r ≡ Ok x → r ≡ Ok y → x ≡ y
 ok_same r x y e f = cc
+
+err_same : {A E : Type 0} (r : Result A E) (x y : E) → r ≡ Err x → r ≡ Err y → x ≡ y
+err_same r x y e f = cc
+
+not_both_of : {A E : Type 0} (r : Result A E) (x : E) (y : A) → r ≡ Err x → r ≡ Ok y → ⊥
+not_both_of r x y e f = cc
+
+some_same : {A : Type 0} (r : Option A) (x y : A) → r ≡ Some x → r ≡ Some y → x ≡ y
+some_same r x y e f = cc
+
+-- ---- programs and runs
 
 pub one_program : OneTree → (source : List ℕ) (p q : Program) → IsBuilt source p → IsBuilt source q → p ≡ q
 one_program one_tree source p q b c =
@@ -32,6 +54,65 @@ one_run : OneTree → (source : List ℕ) (y z : Yield) → Runs source y → Ru
 one_run one_tree source y z r s =
     r.yield ∙ ap (λ (p : Program). direct_run p [] usual_budget) (one_program one_tree source r.program s.program r.source_is s.source_is) ∙ sym s.yield
 
+built_tree : (source : List ℕ) (p : Program) → IsBuilt source p → HasTree source
+built_tree source p b = record {
+  tokens = b.accepted.tokens;
+  lexed = b.accepted.lexed;
+  light = record { program = p; spelled = b.accepted.spelled; light = b.accepted.light };
+}
+
+-- ---- refusals
+
+abbrev lexical_refusal : LexicalFault → ℕ → Refusal
+lexical_refusal BadByte at = refusal.BadByte at
+lexical_refusal WideNumber at = refusal.WideNumber at
+lexical_refusal OpenComment at = refusal.OpenComment at
+
+-- a refusal of tokens that aren't there, or of those that are
+data Refused (source : List ℕ) (r : Refusal) : Type 0 where
+  lexical : (f : LexicalFault) (at : ℕ) → tokens_of source ≡ Err (f, at) → r ≡ lexical_refusal f at → Refused source r
+  syntactic : (ts : List Token) (at : ℕ) → tokens_of source ≡ Ok ts → IsSyntaxFault ts (length source) at → r ≡ refusal.Syntax at → Refused source r
+  deep : (ts : List Token) (at : ℕ) → tokens_of source ≡ Ok ts → IsTooDeep ts at → r ≡ refusal.TooDeep at → Refused source r
+
+refused : (source : List ℕ) (r : Refusal) → IsRefused source r → Refused source r
+refused source (refusal.BadByte at) e = lexical BadByte at e refl
+refused source (refusal.WideNumber at) e = lexical WideNumber at e refl
+refused source (refusal.OpenComment at) e = lexical OpenComment at e refl
+refused source (refusal.Syntax at) f = syntactic f.tokens at f.lexed f.fault refl
+refused source (refusal.TooDeep at) f = deep f.tokens at f.lexed f.fault refl
+
+lexical_same : (f g : LexicalFault) (a b : ℕ) (r q : Refusal) → ◌≡◌ {A = LexicalFault × ℕ} (f, a) (g, b) → r ≡ lexical_refusal f a → q ≡ lexical_refusal g b → r ≡ q
+lexical_same f g a b r q e i j = i ∙ ap (λ (p : LexicalFault × ℕ). lexical_refusal p.0 p.1) e ∙ sym j
+
+one_refusal : OneFault → (source : List ℕ) (r q : Refusal) → Refused source r → Refused source q → r ≡ q
+one_refusal one source r q (lexical f a e i) (lexical g b h j) = lexical_same f g a b r q (err_same (tokens_of source) (f, a) (g, b) e h) i j
+one_refusal one source r q (lexical f a e i) (syntactic us b h k j) = absurd (not_both_of (tokens_of source) (f, a) us e h)
+one_refusal one source r q (lexical f a e i) (deep us b h k j) = absurd (not_both_of (tokens_of source) (f, a) us e h)
+one_refusal one source r q (syntactic ts a e f i) (lexical g b h j) = absurd (not_both_of (tokens_of source) (g, b) ts h e)
+one_refusal one source r q (syntactic ts a e f i) (syntactic us b h k j) =
+    let same : ts ≡ us = ok_same (tokens_of source) ts us e h in
+    i ∙ ap refusal.Syntax (one.syntax us (length source) a b (subst (λ vs. IsSyntaxFault vs (length source) a) same f) k) ∙ sym j
+one_refusal one source r q (syntactic ts a e f i) (deep us b h k j) =
+    let same : ts ≡ us = ok_same (tokens_of source) ts us e h in
+    absurd (one.not_both us (length source) a b (subst (λ vs. IsSyntaxFault vs (length source) a) same f) k)
+one_refusal one source r q (deep ts a e f i) (lexical g b h j) = absurd (not_both_of (tokens_of source) (g, b) ts h e)
+one_refusal one source r q (deep ts a e f i) (syntactic us b h k j) =
+    let same : us ≡ ts = ok_same (tokens_of source) us ts h e in
+    absurd (one.not_both ts (length source) b a (subst (λ vs. IsSyntaxFault vs (length source) b) same k) f)
+one_refusal one source r q (deep ts a e f i) (deep us b h k j) =
+    let same : ts ≡ us = ok_same (tokens_of source) ts us e h in
+    i ∙ ap refusal.TooDeep (one.depth us a b (subst (λ vs. IsTooDeep vs a) same f) k) ∙ sym j
+
+-- a source with a program is not refused
+not_refused : OneFault → (source : List ℕ) (r : Refusal) → Refused source r → HasTree source → ⊥
+not_refused one source r (lexical f at e i) tree = not_both_of (tokens_of source) (f, at) tree.tokens e tree.lexed
+not_refused one source r (syntactic ts at e f i) tree =
+    one.no_syntax ts (length source) at (subst HasLightProgram (ok_same (tokens_of source) tree.tokens ts tree.lexed e) tree.light) f
+not_refused one source r (deep ts at e f i) tree =
+    one.no_depth ts at (subst HasLightProgram (ok_same (tokens_of source) tree.tokens ts tree.lexed e) tree.light) f
+
+-- ---- answers
+
 -- the status of a run
 abbrev status_of : BodyEnd → Status
 status_of end.Done = status.Done
@@ -39,19 +120,21 @@ status_of (end.Trap trap) = status.Trap trap
 status_of end.Waits = status.Stuck
 status_of end.Spent = status.Spent
 
--- a source is too long, has no program, or runs
+-- a source is too long, is refused, has no program that runs, or runs
 data Found (source : List ℕ) (s : Status) (turns : ℕ) : Type 0 where
   long : most_source_bytes < length source → s ≡ status.TooLong → turns ≡ 0 → Found source s turns
+  wrong : length source ≤ most_source_bytes → (r : Refusal) → Refused source r → s ≡ status.Refused r → turns ≡ 0 → Found source s turns
   none : length source ≤ most_source_bytes → IsUnbuilt source → s ≡ status.Unbuilt 0 → turns ≡ 0 → Found source s turns
   ran : (y : Yield) → Runs source y → s ≡ status_of y.end → turns ≡ y.turns → Found source s turns
 
 found : (files : Files) (name : List ℕ) (s : Status) (turns : ℕ) → IsExact s → IsCause files name s turns → (source : List ℕ) × IsRead (Some files) name source × Found source s turns
-found files name status.Done turns x c = (c.0, c.1, ran c.2.done c.2.runs (sym (ap status_of c.2.ends)) c.2.takes)
-found files name (status.Trap trap) turns x c = (c.0, c.1, ran c.2.done c.2.runs (sym (ap status_of c.2.ends)) c.2.takes)
-found files name status.Stuck turns x c = (c.0, c.1, ran c.2.done c.2.runs (sym (ap status_of c.2.ends)) c.2.takes)
-found files name status.Spent turns x c = (c.0, c.1, ran c.2.0.done c.2.0.runs (sym (ap status_of c.2.0.ends)) c.2.0.takes)
-found files name status.TooLong turns x c = (c.0, c.1, long c.2.0 refl c.2.1)
-found files name (status.Unbuilt at) turns x c = (c.0, c.1, none c.2.0 c.2.1 (ap status.Unbuilt c.2.2) c.2.3)
+found files name status.Done turns x c = (c.0, c.1, ran c.2.done c.2.runs (sym (ap status_of c.2.ends.0)) c.2.takes)
+found files name (status.Trap trap) turns x c = (c.0, c.1, ran c.2.done c.2.runs (sym (ap status_of c.2.ends.0)) c.2.takes)
+found files name status.Stuck turns x c = (c.0, c.1, ran c.2.done c.2.runs (sym (ap status_of c.2.ends.0)) c.2.takes)
+found files name status.Spent turns x c = (c.0, c.1, ran c.2.done c.2.runs (sym (ap status_of c.2.ends.0)) c.2.takes)
+found files name status.TooLong turns x c = (c.0, c.1, long c.2.0 refl c.2.1.0)
+found files name (status.Refused r) turns x c = (c.0, c.1, wrong c.2.0 r (refused c.0 r c.2.1) refl c.2.2.0)
+found files name (status.Unbuilt at) turns x c = (c.0, c.1, none c.2.0 c.2.1 (ap status.Unbuilt c.2.2) c.2.3.0)
 found files name status.Usage turns x c = absurd x
 found files name status.ReadFault turns x c = absurd x
 found files name status.WriteFault turns x c = absurd x
@@ -60,25 +143,29 @@ found files name status.NoMemory turns x c = absurd x
 too_short : (source : List ℕ) → most_source_bytes < length source → length source ≤ most_source_bytes → ⊥
 too_short source h k = omega (arith, h, k)
 
-one_answer : OneTree → (source : List ℕ) (s t : Status) (m n : ℕ) → Found source s m → Found source t n → (s ≡ t) × (m ≡ n)
-one_answer one_tree source s t m n (long h is zero) (long k js also) = (is ∙ sym js, zero ∙ sym also)
-one_answer one_tree source s t m n (long h is zero) (none k lacks js also) = absurd (too_short source h k)
-one_answer one_tree source s t m n (long h is zero) (ran y r js takes) = absurd (too_short source h r.source_is.accepted.short)
-one_answer one_tree source s t m n (none h lacks is zero) (long k js also) = absurd (too_short source k h)
-one_answer one_tree source s t m n (none h lacks is zero) (none k lacking js also) = (is ∙ sym js, zero ∙ sym also)
-one_answer one_tree source s t m n (none h lacks is zero) (ran y r js takes) = absurd (lacks r.program r.source_is)
-one_answer one_tree source s t m n (ran y r is takes) (long k js also) = absurd (too_short source k r.source_is.accepted.short)
-one_answer one_tree source s t m n (ran y r is takes) (none k lacking js also) = absurd (lacking r.program r.source_is)
-one_answer one_tree source s t m n (ran y r is takes) (ran z q js also) =
-    let same : y ≡ z = one_run one_tree source y z r q in
+one_answer : OneTree → OneFault → (source : List ℕ) (s t : Status) (m n : ℕ) → Found source s m → Found source t n → (s ≡ t) × (m ≡ n)
+one_answer tree one source s t m n (long h is zero) (long k js also) = (is ∙ sym js, zero ∙ sym also)
+one_answer tree one source s t m n (long h is zero) (wrong k r w js also) = absurd (too_short source h k)
+one_answer tree one source s t m n (long h is zero) (none k lacks js also) = absurd (too_short source h k)
+one_answer tree one source s t m n (long h is zero) (ran y r js takes) = absurd (too_short source h r.source_is.accepted.short)
+one_answer tree one source s t m n (wrong h r w is zero) (long k js also) = absurd (too_short source k h)
+one_answer tree one source s t m n (wrong h r w is zero) (wrong k q v js also) = (is ∙ ap status.Refused (one_refusal one source r q w v) ∙ sym js, zero ∙ sym also)
+one_answer tree one source s t m n (wrong h r w is zero) (none k lacks js also) = absurd (not_refused one source r w lacks.tree)
+one_answer tree one source s t m n (wrong h q w is zero) (ran y r js takes) = absurd (not_refused one source q w (built_tree source r.program r.source_is))
+one_answer tree one source s t m n (none h lacks is zero) (long k js also) = absurd (too_short source k h)
+one_answer tree one source s t m n (none h lacks is zero) (wrong k r w js also) = absurd (not_refused one source r w lacks.tree)
+one_answer tree one source s t m n (none h lacks is zero) (none k lacking js also) = (is ∙ sym js, zero ∙ sym also)
+one_answer tree one source s t m n (none h lacks is zero) (ran y r js takes) = absurd (lacks.unbuilt r.program r.source_is)
+one_answer tree one source s t m n (ran y r is takes) (long k js also) = absurd (too_short source k r.source_is.accepted.short)
+one_answer tree one source s t m n (ran y r is takes) (wrong k q w js also) = absurd (not_refused one source q w (built_tree source r.program r.source_is))
+one_answer tree one source s t m n (ran y r is takes) (none k lacking js also) = absurd (lacking.unbuilt r.program r.source_is)
+one_answer tree one source s t m n (ran y r is takes) (ran z q js also) =
+    let same : y ≡ z = one_run tree source y z r q in
     (is ∙ ap (λ (w : Yield). status_of w.end) same ∙ sym js, takes ∙ ap (λ (w : Yield). w.turns) same ∙ sym also)
 
-some_same : {A : Type 0} (r : Option A) (x y : A) → r ≡ Some x → r ≡ Some y → x ≡ y
-some_same r x y e f = cc
-
-pub causes_exclude : OneTree → (files : Files) (name : List ℕ) (s t : Status) (m n : ℕ) → IsExact s → IsExact t → IsCause files name s m → IsCause files name t n → (s ≡ t) × (m ≡ n)
-causes_exclude one_tree files name s t m n x z c d =
+pub causes_exclude : OneTree → OneFault → (files : Files) (name : List ℕ) (s t : Status) (m n : ℕ) → IsExact s → IsExact t → IsCause files name s m → IsCause files name t n → (s ≡ t) × (m ≡ n)
+causes_exclude tree one files name s t m n x z c d =
     let a = found files name s m x c in
     let b = found files name t n z d in
     let same : a.0 ≡ b.0 = some_same _ a.0 b.0 a.1.1 b.1.1 in
-    one_answer one_tree b.0 s t m n (subst (λ source. Found source s m) same a.2) b.2
+    one_answer tree one b.0 s t m n (subst (λ source. Found source s m) same a.2) b.2

@@ -1,23 +1,54 @@
--- The program that a source is, and what it does.
-use Rattle.std.specs.Prelude.{◌≡◌, ℕ, true, List, [], Result, Ok, Err}
+-- The program that a source is, and what it does; or why it has none.
+use Rattle.std.specs.Prelude.{◌≡◌, ℕ, true, List, [], length, Result, Ok, Err}
 use Rattle.mpl_ast.specs.declared.program.Program.{Program}
+use Rattle.mpl_ast.specs.declared.token.Token.{Token}
 use Rattle.mpl_mean.specs.Accepted.{IsAccepted}
 use Rattle.mpl_mean.specs.FirstForms.FirstForm.{is_first_form}
 use Rattle.mpl_mean.specs.Limits.{usual_budget}
 use Rattle.mpl_mean.specs.Meaning.DirectRun.{direct_run}
-use Rattle.mpl_value.specs.declared.body.BodyEnd.TheVariants.{Spent}
+use Rattle.mpl_mean.specs.Text.Lexemes.{BadByte, OpenComment, WideNumber, tokens_of}
+use Rattle.mpl_mean.specs.Text.ParseFaults.{HasLightProgram, IsSyntaxFault, IsTooDeep}
+use Rattle.mpl_grammar.specs.declared.faults.Fault.{Fault}
+use Rattle.mpl_grammar.specs.declared.faults.Fault.TheVariants as fault
 use Rattle.mpl_value.specs.declared.body.Yield.{Yield}
-use Rattle.mentat_cmd.specs.declared.run.Refusal.{Refusal}
-use Rattle.mentat_cmd.specs.declared.run.Refusal.TheVariants as refusal
+use Rattle.mentat_cmd.specs.declared.run.Rejection.{Rejection}
+use Rattle.mentat_cmd.specs.declared.run.Rejection.TheVariants as rejection
+use Rattle.mentat_cmd.specs.declared.status.Refusal.{Refusal}
+use Rattle.mentat_cmd.specs.declared.status.Refusal.TheVariants as refusal
+
+-- ---- sources without a program
+
+-- the source has tokens, and they have this fault
+pub record HasFault (source : List ℕ) (Fault : List Token → Type 0) : Type 0 where
+  pub tokens : List Token
+  pub lexed : tokens_of source ≡ Ok tokens
+  pub fault : Fault tokens
+
+-- the first fault of the source, and its first byte
+abbrev pub IsRefused : List ℕ → Refusal → Type 0
+IsRefused source (refusal.BadByte at) = tokens_of source ≡ Err (BadByte, at)
+IsRefused source (refusal.WideNumber at) = tokens_of source ≡ Err (WideNumber, at)
+IsRefused source (refusal.OpenComment at) = tokens_of source ≡ Err (OpenComment, at)
+IsRefused source (refusal.Syntax at) = HasFault source (λ tokens. IsSyntaxFault tokens (length source) at)
+IsRefused source (refusal.TooDeep at) = HasFault source (λ tokens. IsTooDeep tokens at)
+
+-- ---- sources with one
+
+-- the source has the tokens of a program, of which none weighs too much
+pub record HasTree (source : List ℕ) : Type 0 where
+  pub tokens : List Token
+  pub lexed : tokens_of source ≡ Ok tokens
+  pub light : HasLightProgram tokens
 
 -- the source is accepted as the program, which is of the first form
 pub record IsBuilt (source : List ℕ) (p : Program) : Type 0 where
   pub accepted : IsAccepted source p
   pub first : is_first_form p ≡ true
 
--- the source is accepted as no program of the first form
-abbrev pub IsUnbuilt : List ℕ → Type 0
-IsUnbuilt source = (p : Program) → IsBuilt source p → ⊥
+-- the source has a program, but is accepted as none of the first form
+pub record IsUnbuilt (source : List ℕ) : Type 0 where
+  pub tree : HasTree source
+  pub unbuilt : (p : Program) → IsBuilt source p → ⊥
 
 -- this is what the program of the source does, within the usual budget
 pub record Runs (source : List ℕ) (y : Yield) : Type 0 where
@@ -25,8 +56,14 @@ pub record Runs (source : List ℕ) (y : Yield) : Type 0 where
   pub source_is : IsBuilt source program
   pub yield : y ≡ direct_run program [] usual_budget
 
--- what is said of a source: its run, or that there is none
-abbrev pub Ran : List ℕ → Result Yield Refusal → Type 0
+-- what is said of a source: its run, or why there is none
+abbrev pub Ran : List ℕ → Result Yield Rejection → Type 0
 Ran source (Ok y) = Runs source y
-Ran source (Err refusal.Unbuilt) = IsUnbuilt source
-Ran source (Err refusal.NoMemory) = Unit {0}
+Ran source (Err (rejection.Refused refusal)) = IsRefused source refusal
+Ran source (Err rejection.Unbuilt) = IsUnbuilt source
+Ran source (Err rejection.NoMemory) = Unit {0}
+
+-- a fault of tokens, as a refusal of their source
+abbrev pub refused : Fault → Refusal
+refused (fault.Syntax at) = refusal.Syntax at
+refused (fault.TooDeep at) = refusal.TooDeep at

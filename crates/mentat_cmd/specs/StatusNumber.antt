@@ -6,6 +6,7 @@ use Rattle.mentat_cmd.specs.declared.status.Status.TheVariants as status
 abbrev pub number_of : Status → ℕ
 number_of status.Done = 0
 number_of status.Usage = 1
+number_of (status.Refused refusal) = 2
 number_of (status.Trap trap) = 3
 number_of status.Spent = 4
 number_of status.Stuck = 5

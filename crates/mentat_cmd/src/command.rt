@@ -1,24 +1,27 @@
-ghost use Rattle.std.specs.Prelude.{◌≡◌, ◌↔◌, ◌≢◌, ◌+◌, ℕ, List, None, IfSome, IsTrue, IsSome};
+ghost use Rattle.std.specs.Prelude.{◌≡◌, ◌↔◌, ◌≢◌, ◌+◌, None, IfSome, IsTrue};
 ghost use Rattle.mentat_io.specs.Causes.{Rose};
-ghost use Rattle.mentat_cmd.specs.Answer.{Answered, Answers, Ends, IsStatusOf, IsThere, IsWritten, LeavesOutput};
-ghost use Rattle.mentat_cmd.specs.Output.{Appends, AppendsFront};
-ghost use Rattle.mentat_cmd.specs.Words.{file_of};
 ghost use Rattle.mpl_mean.specs.Limits.{usual_budget};
 ghost use Rattle.mpl_value.specs.declared.body.BodyEnd.TheVariants.{Spent};
 ghost use Rattle.mpl_value.specs.declared.body.Yield.{Yield};
+ghost use Rattle.mentat_cmd.specs.Answer.{Answered, Answers, Ended, Ends, IsOfRun, IsSaid, IsStatusOf, IsThere, IsWritten, LeavesOutput, Refuses, Says, Stops, stream};
+ghost use Rattle.mentat_cmd.specs.Message as spec;
+ghost use Rattle.mentat_cmd.specs.Message.{text_of};
+ghost use Rattle.mentat_cmd.specs.Words.{file_of};
 
-use crate::output::write_all;
-use crate::run::{Refusal, run};
+use crate::message::{Message, message_of};
+use crate::output::{say, write_all};
+use crate::run::{Rejection, run};
 use crate::status::{Ending, Status};
 use crate::words;
 use mentat_io::{Failed, Shelf, ShelfFault, Sink, Source, Text};
-use mpl_value::{BodyEnd, Yield};
+use mpl_value::{BodyEnd, NoMemory, Yield};
 use std::alloc::Global;
 
 /// The most bytes that a source may have.
 const SOURCE_LIMIT: u32 = 1_048_576;
 
-/// Does what the words say: `run FILE` runs the program in FILE and writes what it prints to `out`.
+/// Does what the words say: `run FILE` runs the program in FILE and writes what it prints to `out`. How that ended is
+/// said on `err`, as far as it takes it.
 pub fn quiet_command<F: Shelf, S: Source, K: Sink, E: Sink>(
     alloc: Global,
     words: &[Text],
@@ -30,92 +33,194 @@ pub fn quiet_command<F: Shelf, S: Source, K: Sink, E: Sink>(
     // The words are not of the form of a command, and then no file is asked for.
     ensures usage { (result.status ≡ Status.Usage) ↔ (file_of words.now ≡ None) }
     ensures unread { file_of words.now ≡ None → shelf.new ≡ shelf.old }
-    ensures idle { file_of words.now ≡ None → result.turns ≡ 0 }
+    ensures idle { file_of words.now ≡ None → Stops (stream (E.written err.old) (E.written err.new) (E.faults err.old) (E.faults err.new)) Status.Usage result.turns }
 
     // Reading the file failed, which a shelf that is sure of it rules out.
     ensures read_fault { result.status ≡ Status.ReadFault → Rose (F.faults shelf.old) (F.faults shelf.new) }
     ensures sure { IsTrue (F.sure shelf.old) → IsThere (F.files shelf.old) (file_of words.now) → result.status ≢ Status.ReadFault }
 
-    // Each other answer follows from the bytes that were read.
+    // Each other answer follows from the bytes that were read, and so does what was written.
     ensures answer { IfSome (file_of words.now) (λ name. Answered (F.files shelf.old) name
-        (λ bytes. Answers bytes (Appends (K.written out.old) (K.written out.new)) (AppendsFront (K.written out.old) (K.written out.new))
-        (Rose (K.faults out.old) (K.faults out.new)) result.status result.turns)
+        (stream (K.written out.old) (K.written out.new) (K.faults out.old) (K.faults out.new))
+        (stream (E.written err.old) (E.written err.new) (E.faults err.old) (E.faults err.new))
         result.status result.turns) }
 
     ensures unwritten { LeavesOutput result.status → out.new ≡ out.old }
+    ensures silent { result.status ≡ Status.Done → err.new ≡ err.old }
     ensures input { input.new ≡ input.old }
-    ensures err { err.new ≡ err.old }
 {
     let Some(name) = words::file_of(words) else {
-        return refused(Status::Usage);
+        return stop(&Message::Fixed("mentat: usage\n"), Status::Usage, err);
     };
     match shelf.read_file(alloc, name, SOURCE_LIMIT + 1) {
-        Ok(bytes) => answer(alloc, bytes.as_slice(), out),
-        Err(ShelfFault::Failed) => refused(Status::ReadFault),
-        Err(ShelfFault::NoMemory) => refused(Status::NoMemory),
+        Ok(bytes) => answer(alloc, bytes.as_slice(), out, err),
+        Err(ShelfFault::Failed) => stop(
+            &Message::Fixed("mentat: read fault\n"),
+            Status::ReadFault,
+            err,
+        ),
+        Err(ShelfFault::NoMemory) => without_memory(err),
     }
 }
 
-// Nothing ran.
-fn refused(status: Status) -> Ending
-    ensures { result ≡ record { status = status; turns = 0 } }
+// Nothing ran, and so is said.
+fn stop<E: Sink>(message: &Message, status: Status, err: &mut E) -> Ending
+    requires { text_of message.now ≡ spec.message status }
+    ensures status { result.status ≡ status }
+    ensures said { Stops (stream (E.written err.old) (E.written err.new) (E.faults err.old) (E.faults err.new)) status result.turns }
 {
+    tell(message, status, err);
     Ending { status, turns: 0 }
 }
 
+// What is said of a status, as far as the stream takes it.
+fn tell<E: Sink>(message: &Message, status: Status, err: &mut E)
+    requires { text_of message.now ≡ spec.message status }
+    ensures { Says (stream (E.written err.old) (E.written err.new) (E.faults err.old) (E.faults err.new)) (spec.message status) }
+{
+    say(err, message.as_bytes());
+}
+
+fn without_memory<E: Sink>(err: &mut E) -> Ending
+    ensures status { result.status ≡ Status.NoMemory }
+    ensures said { Stops (stream (E.written err.old) (E.written err.new) (E.faults err.old) (E.faults err.new)) Status.NoMemory result.turns }
+{
+    stop(
+        &Message::Fixed("mentat: no memory\n"),
+        Status::NoMemory,
+        err,
+    )
+}
+
+// Nothing ran, and so is said, if there is memory for the message.
+fn refuse<E: Sink>(alloc: Global, status: Status, err: &mut E) -> Ending
+    ensures { Refuses (stream (E.written err.old) (E.written err.new) (E.faults err.old) (E.faults err.new)) status result.status result.turns }
+{
+    match message_of(alloc, status) {
+        Ok(message) => stop(&message, status, err),
+        Err(NoMemory) => without_memory(err),
+    }
+}
+
 // Runs the program that the bytes are the source of.
-fn answer<K: Sink>(alloc: Global, bytes: &[u8], out: &mut K) -> Ending
-    ensures cause { Answers bytes.now (Appends (K.written out.old) (K.written out.new)) (AppendsFront (K.written out.old) (K.written out.new))
-        (Rose (K.faults out.old) (K.faults out.new)) result.status result.turns }
+fn answer<K: Sink, E: Sink>(alloc: Global, bytes: &[u8], out: &mut K, err: &mut E) -> Ending
+    ensures cause { Answers bytes.now
+        (stream (K.written out.old) (K.written out.new) (K.faults out.old) (K.faults out.new))
+        (stream (E.written err.old) (E.written err.new) (E.faults err.old) (E.faults err.new))
+        result.status result.turns }
     ensures unwritten { LeavesOutput result.status → out.new ≡ out.old }
+    ensures silent { result.status ≡ Status.Done → err.new ≡ err.old }
 {
     if bytes.len() > SOURCE_LIMIT as usize {
-        return refused(Status::TooLong);
+        return stop(&Message::Fixed("mentat: too long\n"), Status::TooLong, err);
     }
     match run(alloc, bytes) {
-        Ok(done) => finish(&done, out),
-        Err(Refusal::Unbuilt) => refused(Status::Unbuilt(0)),
-        Err(Refusal::NoMemory) => refused(Status::NoMemory),
+        Ok(done) => finish(alloc, &done, out, err),
+        Err(Rejection::Refused(refusal)) => refuse(alloc, Status::Refused(refusal), err),
+        Err(Rejection::Unbuilt) => refuse(alloc, Status::Unbuilt(0), err),
+        Err(Rejection::NoMemory) => without_memory(err),
     }
 }
 
-// Writes what a run printed, if its turns didn't run out.
-fn finish<K: Sink>(done: &Yield, out: &mut K) -> Ending
+// Writes what a run printed, if its turns didn't run out, and says how it ended.
+fn finish<K: Sink, E: Sink>(alloc: Global, done: &Yield, out: &mut K, err: &mut E) -> Ending
     requires spent { done.now.end ≡ Spent → done.now.turns ≡ usual_budget + 1 }
-    ensures ends { Ends done.now (Appends (K.written out.old) (K.written out.new)) (AppendsFront (K.written out.old) (K.written out.new))
-        (Rose (K.faults out.old) (K.faults out.new)) result.status }
-    ensures turns { result.turns ≡ done.now.turns }
+    ensures ends { Ended done.now
+        (stream (K.written out.old) (K.written out.new) (K.faults out.old) (K.faults out.new))
+        (stream (E.written err.old) (E.written err.new) (E.faults err.old) (E.faults err.new))
+        result.status result.turns }
     ensures unwritten { LeavesOutput result.status → out.new ≡ out.old }
+    ensures silent { result.status ≡ Status.Done → err.new ≡ err.old }
 {
     match done.end {
-        BodyEnd::Spent => Ending {
-            status: Status::Spent,
-            turns: done.turns,
-        },
-        end => Ending {
-            status: written(end, done.lines.as_slice(), out),
-            turns: done.turns,
-        },
+        BodyEnd::Spent => {
+            tell(&Message::Fixed("mentat: spent\n"), Status::Spent, err);
+            Ending {
+                status: Status::Spent,
+                turns: done.turns,
+            }
+        }
+        end => report(alloc, status_of(end), done, out, err),
     }
 }
 
-// Writes the lines of a run that ended so.
-fn written<K: Sink>(end: BodyEnd, lines: &[u8], out: &mut K) -> Status
-    requires { IsWritten end }
-    ensures ends { (y : Yield) → y.end ≡ end → y.lines ≡ lines.now → Ends y (Appends (K.written out.old) (K.written out.new)) (AppendsFront (K.written out.old) (K.written out.new))
-        (Rose (K.faults out.old) (K.faults out.new)) result }
+// Writes what a run printed, and says how it ended. The message is made before anything is written.
+fn report<K: Sink, E: Sink>(
+    alloc: Global,
+    status: Status,
+    done: &Yield,
+    out: &mut K,
+    err: &mut E,
+) -> Ending
+    requires status { IsStatusOf done.now.end status }
+    requires run { IsOfRun status }
+    ensures ends { Ended done.now
+        (stream (K.written out.old) (K.written out.new) (K.faults out.old) (K.faults out.new))
+        (stream (E.written err.old) (E.written err.new) (E.faults err.old) (E.faults err.new))
+        result.status result.turns }
+    ensures unwritten { LeavesOutput result.status → out.new ≡ out.old }
+    ensures silent { result.status ≡ Status.Done → err.new ≡ err.old }
+{
+    match message_of(alloc, status) {
+        Ok(message) => Ending {
+            status: written(&message, status, done.lines.as_slice(), out, err),
+            turns: done.turns,
+        },
+        Err(NoMemory) => without_memory(err),
+    }
+}
+
+// The lines first, and then the message.
+fn written<K: Sink, E: Sink>(
+    message: &Message,
+    status: Status,
+    lines: &[u8],
+    out: &mut K,
+    err: &mut E,
+) -> Status
+    requires message { text_of message.now ≡ spec.message status }
+    requires run { IsOfRun status }
+    ensures ends { (y : Yield) → IsStatusOf y.end status → y.lines ≡ lines.now → Ends y
+        (stream (K.written out.old) (K.written out.new) (K.faults out.old) (K.faults out.new))
+        (stream (E.written err.old) (E.written err.new) (E.faults err.old) (E.faults err.new))
+        result }
     ensures written { LeavesOutput result → ⊥ }
+    ensures silent { result ≡ Status.Done → err.new ≡ err.old }
 {
     match write_all(out, lines) {
-        Ok(()) => status_of(end),
+        Ok(()) => said(message, status, err),
+        Err(Failed) => {
+            tell(
+                &Message::Fixed("mentat: write fault\n"),
+                Status::WriteFault,
+                err,
+            );
+            Status::WriteFault
+        }
+    }
+}
+
+// The message of a run, if there is one.
+fn said<E: Sink>(message: &Message, status: Status, err: &mut E) -> Status
+    requires message { text_of message.now ≡ spec.message status }
+    requires run { IsOfRun status }
+    ensures said { IsSaid (stream (E.written err.old) (E.written err.new) (E.faults err.old) (E.faults err.new)) status result }
+    ensures silent { result ≡ Status.Done → err.new ≡ err.old }
+{
+    if status == Status::Done {
+        return status;
+    }
+    match write_all(err, message.as_bytes()) {
+        Ok(()) => status,
         Err(Failed) => Status::WriteFault,
     }
 }
 
-// The status of a run whose lines are written.
+// The status of a run whose turns didn't run out.
 fn status_of(end: BodyEnd) -> Status
     requires { IsWritten end }
-    ensures { IsStatusOf end result }
+    ensures status { IsStatusOf end result }
+    ensures run { IsOfRun result }
 {
     match end {
         BodyEnd::Done => Status::Done,

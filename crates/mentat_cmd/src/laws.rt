@@ -3,6 +3,7 @@ ghost use Rattle.mentat_io.specs.Shelf.{Files};
 ghost use Rattle.mentat_cmd.specs.Answer.{IsCause, IsExact};
 ghost use Rattle.mentat_cmd.specs.declared.status.Status.{Status};
 
+use mpl_grammar::faults_exclude_one_another;
 use mpl_mean::tokens_have_one_tree;
 
 /// Of the answers that come exactly where their cause holds, no two have a cause in one file.
@@ -11,4 +12,5 @@ pub fn causes_exclude_one_another()
         IsExact s → IsExact t → IsCause files name s m → IsCause files name t n → (s ≡ t) × (m ≡ n) }
 {
     tokens_have_one_tree();
+    faults_exclude_one_another();
 }

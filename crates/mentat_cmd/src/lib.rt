@@ -3,6 +3,7 @@
 
 mod command;
 mod laws;
+mod message;
 mod output;
 mod run;
 mod status;
@@ -10,4 +11,4 @@ mod words;
 
 pub use command::quiet_command;
 pub use laws::causes_exclude_one_another;
-pub use status::{Ending, Status};
+pub use status::{Ending, Refusal, Status};

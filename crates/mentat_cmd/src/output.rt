@@ -1,5 +1,6 @@
 ghost use Rattle.std.specs.Prelude.{◌≡◌, ◌≤◌, OnOk, OnErr};
 ghost use Rattle.mentat_io.specs.Causes.{Rose};
+ghost use Rattle.mentat_cmd.specs.Answer.{Says, stream};
 ghost use Rattle.mentat_cmd.specs.Output.{Appends, AppendsFront};
 
 use mentat_io::{Failed, Sink};
@@ -19,4 +20,13 @@ pub fn write_all<K: Sink>(out: &mut K, bytes: &[u8]) -> Result<(), Failed>
         at += out.write(&bytes[at..end])?;
     }
     Ok(())
+}
+
+/// Writes all bytes, as far as the sink takes them.
+pub fn say<K: Sink>(out: &mut K, bytes: &[u8])
+    ensures { Says (stream (K.written out.old) (K.written out.new) (K.faults out.old) (K.faults out.new)) bytes.now }
+{
+    match write_all(out, bytes) {
+        Ok(()) | Err(Failed) => {}
+    }
 }

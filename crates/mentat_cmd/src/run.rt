@@ -1,9 +1,14 @@
-ghost use Rattle.std.specs.Prelude.{◌≡◌, ◌+◌, ◌≤◌, [], length, IfOk};
+ghost use Rattle.std.specs.Prelude.{◌≡◌, ◌+◌, ◌≤◌, [], length, Ok, Err, IfOk, IfErr};
 ghost use Rattle.mpl_mean.specs.Limits.{most_source_bytes, usual_budget};
-ghost use Rattle.mpl_value.specs.declared.body.BodyEnd.TheVariants.{Spent};
-ghost use Rattle.mentat_cmd.specs.Program.{Ran};
 ghost use Rattle.mpl_mean.specs.Meaning.DirectRun.{main_start};
+ghost use Rattle.mpl_mean.specs.Text.Lexemes.{tokens_of};
+ghost use Rattle.mpl_value.specs.declared.body.BodyEnd.TheVariants.{Spent};
+ghost use Rattle.mentat_cmd.specs.Program as spec;
+ghost use Rattle.mentat_cmd.specs.Program.{Ran};
 
+use crate::status::Refusal;
+use mpl_ast::token::Tokens;
+use mpl_grammar::{Fault, first_fault};
 use mpl_lexer::{LexFault, lex};
 use mpl_mean::{Typed, tokens_are_few, tokens_have_one_tree};
 use mpl_parse::{ParseFault, parse};
@@ -17,49 +22,74 @@ pub const BUDGET: u64 = 1_000_000;
 
 /// Why a source didn't run.
 #[derive(Clone, Copy, Debug, PartialEq, Eq)]
-pub enum Refusal {
-    /// No well typed program of the first form has this source.
+pub enum Rejection {
+    /// No program has this source.
+    Refused(Refusal),
+    /// The program isn't of the first form, or a type rule fails in it.
     Unbuilt,
     NoMemory,
 }
 
-impl From<NoMemory> for Refusal {
-    ghost use Rattle.mentat_cmd.specs.declared.run.Refusal.TheVariants.{NoMemory};
+impl From<NoMemory> for Rejection {
+    ghost use Rattle.mentat_cmd.specs.declared.run.Rejection.TheVariants.{NoMemory};
 
     ghost from_gives = { λ _ e. e ≡ NoMemory };
 
-    fn from(_error: NoMemory) -> Refusal {
-        Refusal::NoMemory
+    fn from(_error: NoMemory) -> Rejection {
+        Rejection::NoMemory
     }
 }
 
 /// What the program of a source does.
-pub fn run(alloc: Global, source: &[u8]) -> Result<Yield, Refusal>
+pub fn run(alloc: Global, source: &[u8]) -> Result<Yield, Rejection>
     requires { length source.now ≤ most_source_bytes }
     ensures ran { Ran source.now result }
     ensures spent { IfOk result (λ y. y.end ≡ Spent → y.turns ≡ usual_budget + 1) }
 {
-    let tokens = match lex(alloc, source) {
-        Ok(tokens) => tokens,
-        Err(LexFault::NoMemory) => return Err(Refusal::NoMemory),
-        Err(_) => return Err(Refusal::Unbuilt),
-    };
+    let tokens = tokens_of(alloc, source)?;
     tokens_are_few();
+    if let Some(fault) = first_fault(alloc, &tokens)? {
+        return Err(Rejection::Refused(refused(fault)));
+    }
     let program = match parse(alloc, &tokens) {
         Ok(program) => program,
-        Err(ParseFault::NoMemory) => return Err(Refusal::NoMemory),
-        Err(ParseFault::Unfit) => return Err(Refusal::Unbuilt),
+        Err(ParseFault::NoMemory) => return Err(Rejection::NoMemory),
+        Err(ParseFault::Unfit) => return Err(Rejection::Unbuilt),
     };
     tokens_have_one_tree();
     if !is_typed(alloc, &program)? {
-        return Err(Refusal::Unbuilt);
+        return Err(Rejection::Unbuilt);
     }
     let typed = Typed::of(program);
     let start = start_of_main(alloc);
     let replies = Replies::new(alloc);
     match walk(alloc, &typed, &start, &replies, BUDGET) {
         Ok(done) => Ok(done),
-        Err(NoMemory) => Err(Refusal::NoMemory),
+        Err(NoMemory) => Err(Rejection::NoMemory),
+    }
+}
+
+// The tokens of a source, or its first fault.
+fn tokens_of(alloc: Global, source: &[u8]) -> Result<Tokens, Rejection>
+    requires { length source.now ≤ most_source_bytes }
+    ensures tokens { IfOk result (λ t. (tokens_of source.now ≡ Ok t.list) × (t.end ≡ length source.now)) }
+    ensures fault { IfErr result (λ e. Ran source.now (Err e)) }
+{
+    match lex(alloc, source) {
+        Ok(tokens) => Ok(tokens),
+        Err(LexFault::BadByte(at)) => Err(Rejection::Refused(Refusal::BadByte(at))),
+        Err(LexFault::WideNumber(at)) => Err(Rejection::Refused(Refusal::WideNumber(at))),
+        Err(LexFault::OpenComment(at)) => Err(Rejection::Refused(Refusal::OpenComment(at))),
+        Err(LexFault::NoMemory) => Err(Rejection::NoMemory),
+    }
+}
+
+fn refused(fault: Fault) -> Refusal
+    ensures { result ≡ spec.refused fault }
+{
+    match fault {
+        Fault::Syntax(at) => Refusal::Syntax(at),
+        Fault::TooDeep(at) => Refusal::TooDeep(at),
     }
 }
 

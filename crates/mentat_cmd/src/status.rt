@@ -2,12 +2,29 @@ ghost use Rattle.std.specs.Prelude.{◌≡◌};
 
 use mpl_value::Trap;
 
+/// Why a source has no program, and the first byte at which that shows.
+#[derive(Clone, Copy, Debug, PartialEq, Eq)]
+pub enum Refusal {
+    /// No token begins at the byte.
+    BadByte(u32),
+    /// The number that begins there is greater than a word holds.
+    WideNumber(u32),
+    /// The comment that begins there isn't closed.
+    OpenComment(u32),
+    /// No program has the token there, or ends there, behind those before.
+    Syntax(u32),
+    /// Too many constructs are open at the token there.
+    TooDeep(u32),
+}
+
 /// How a command ends.
 #[derive(Clone, Copy, Debug, PartialEq, Eq)]
 pub enum Status {
     Done,
     /// The words are not of the form of a command.
     Usage,
+    /// The file holds no program.
+    Refused(Refusal),
     /// `main` ended with this trap.
     Trap(Trap),
     /// The turns of the budget ran out.
@@ -21,7 +38,7 @@ pub enum Status {
     NoMemory,
     /// The file is above its limit.
     TooLong,
-    /// The file holds no program of the first form.
+    /// The file holds a program that doesn't run yet, or one in which a type rule fails.
     Unbuilt(u64),
 }
 
@@ -35,6 +52,7 @@ impl Status {
         match self {
             Status::Done => 0,
             Status::Usage => 1,
+            Status::Refused(_) => 2,
             Status::Trap(_) => 3,
             Status::Spent => 4,
             Status::Stuck => 5,

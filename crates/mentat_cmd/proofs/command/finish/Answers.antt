@@ -1,9 +1,6 @@
-use Rattle.std.proofs.Common.{refl, sym}
+use Rattle.std.proofs.Common.{inl, refl, sym}
 use Rattle.mentat_cmd.proofs.command.finish.Goals as goal
 
-pub returns-in_default : goal.returns-in_default
-returns-in_default g c = record {
-  ends = c.written.ensures.ends c.args.done.now refl (sym c.as_slice.ensures);
-  turns = refl;
-  unwritten = λ leaves. absurd (c.written.ensures.written leaves);
-}
+pub returns-in-Spent-clause-ends : goal.returns-in-Spent-clause-ends
+returns-in-Spent-clause-ends g c =
+    inl (refl, (c.in-Spent.is, c.requires.spent c.in-Spent.is, c.tell.ensures))

@@ -13,7 +13,7 @@ use Rattle.mpl_mean.specs.TypeRules.Rules.{is_typed}
 use Rattle.mpl_value.specs.declared.body.BodyStart.{BodyStart}
 use Rattle.mpl_value.specs.declared.body.Yield.{Yield}
 use Rattle.mpl_value.specs.declared.known.Known.{Known}
-use Rattle.mentat_cmd.specs.Program.{IsBuilt, IsUnbuilt}
+use Rattle.mentat_cmd.specs.Program.{HasTree, IsBuilt, IsUnbuilt}
 use Rattle.mentat_cmd.proofs.Causes.{OneTree, ok_same}
 use Rattle.mentat_cmd.proofs.run.run.Goals as goal
 
@@ -25,17 +25,25 @@ runs_directly p y start replies turns told starts none =
     ∙ ap (λ (r : FinMap nat_cmp Known). yield_of p (main_start []) r turns) none
 
 -- where the one program that has a source's tokens is ill typed, no other has the source
-ill_typed : (source : List ℕ) (q : Program) (tokens : List Token) → OneTree
-    → tokens_of source ≡ Ok tokens → is_first_form q ≡ true → spells q tokens ≡ true → is_typed q ≡ false → IsUnbuilt source
-ill_typed source q tokens one_tree lexed built spelled ill p b =
-    let same : b.accepted.tokens ≡ tokens = ok_same (tokens_of source) b.accepted.tokens tokens b.accepted.lexed lexed in
-    let one : p ≡ q = one_tree p q tokens b.first built (subst (λ (ts : List Token). spells p ts ≡ true) same b.accepted.spelled) spelled in
-    true≢false (sym (subst (λ (r : Program). is_typed r ≡ true) one b.accepted.typed) ∙ ill)
+ill_typed : (source : List ℕ) (q : Program) (tree : HasTree source) → OneTree
+    → is_first_form q ≡ true → spells q tree.tokens ≡ true → is_typed q ≡ false → IsUnbuilt source
+ill_typed source q tree one_tree built spelled ill = record {
+  tree = tree;
+  unbuilt = λ p b.
+      let same : b.accepted.tokens ≡ tree.tokens = ok_same (tokens_of source) b.accepted.tokens tree.tokens b.accepted.lexed tree.lexed in
+      let one : p ≡ q = one_tree p q tree.tokens b.first built (subst (λ (ts : List Token). spells p ts ≡ true) same b.accepted.spelled) spelled in
+      true≢false (sym (subst (λ (r : Program). is_typed r ≡ true) one b.accepted.typed) ∙ ill);
+}
 
 pub returns-then-not-branch-clause-ran : goal.returns-then-not-branch-clause-ran
 returns-then-not-branch-clause-ran c =
-    ill_typed c.args.source.now c.in-Ok-parse.program c.in-Ok.tokens.list c.tokens_have_one_tree.ensures
-    c.in-Ok.ensures.tokens.0 c.in-Ok-parse.ensures.built c.in-Ok-parse.ensures.text (sym c.in_ok-is_typed.ensures ∙ c.if-not-branch.true)
+    let tree : HasTree c.args.source.now = record {
+      tokens = c.in_ok-tokens.tokens.list;
+      lexed = c.in_ok-tokens.ensures.tokens.0;
+      light = record { program = c.in-Ok.program; spelled = c.in-Ok.ensures.text; light = c.in-Ok.ensures.light };
+    } in
+    ill_typed c.args.source.now c.in-Ok.program tree c.tokens_have_one_tree.ensures
+    c.in-Ok.ensures.built c.in-Ok.ensures.text (sym c.in_ok-is_typed.ensures ∙ c.if-not-branch.true)
 
 -- the start of `main` fits any program
 main_fits : (p : Program) → StartFits p (main_start [])
@@ -46,17 +54,17 @@ walk-requires-clause-fits c = subst (λ (start : BodyStart). StartFits c.of-type
 
 pub returns-in-Ok-walk-clause-ran : goal.returns-in-Ok-walk-clause-ran
 returns-in-Ok-walk-clause-ran c =
-    let accepted : IsAccepted c.args.source.now c.in-Ok-parse.program = record {
+    let accepted : IsAccepted c.args.source.now c.in-Ok.program = record {
       short = c.requires;
-      tokens = c.in-Ok.tokens.list;
-      lexed = c.in-Ok.ensures.tokens.0;
-      spelled = c.in-Ok-parse.ensures.text;
-      light = c.in-Ok-parse.ensures.light;
+      tokens = c.in_ok-tokens.tokens.list;
+      lexed = c.in_ok-tokens.ensures.tokens.0;
+      spelled = c.in-Ok.ensures.text;
+      light = c.in-Ok.ensures.light;
       typed = sym c.in_ok-is_typed.ensures ∙ c.if-not-branch.false;
     } in
-    let built : IsBuilt c.args.source.now c.in-Ok-parse.program = record { accepted = accepted; first = c.in-Ok-parse.ensures.built } in
-    let walked : c.in-Ok-walk.done ≡ yield_of c.in-Ok-parse.program c.start_of_main-start.result c.new-replies.result 1000000 =
+    let built : IsBuilt c.args.source.now c.in-Ok.program = record { accepted = accepted; first = c.in-Ok.ensures.built } in
+    let walked : c.in-Ok-walk.done ≡ yield_of c.in-Ok.program c.start_of_main-start.result c.new-replies.result 1000000 =
     c.in-Ok-walk.ensures.meaning ∙ ap (λ (p : Program). yield_of p c.start_of_main-start.result c.new-replies.result 1000000) c.of-typed.ensures in
-    let yield : c.in-Ok-walk.done ≡ direct_run c.in-Ok-parse.program [] 1000000 =
-    runs_directly c.in-Ok-parse.program c.in-Ok-walk.done c.start_of_main-start.result c.new-replies.result 1000000 walked c.start_of_main-start.ensures c.new-replies.ensures in
-    record { program = c.in-Ok-parse.program; source_is = built; yield = yield }
+    let yield : c.in-Ok-walk.done ≡ direct_run c.in-Ok.program [] 1000000 =
+    runs_directly c.in-Ok.program c.in-Ok-walk.done c.start_of_main-start.result c.new-replies.result 1000000 walked c.start_of_main-start.ensures c.new-replies.ensures in
+    record { program = c.in-Ok.program; source_is = built; yield = yield }

@@ -1,0 +1,1 @@
+int main() { if (a) ; else ; else ; }

@@ -1,0 +1,1 @@
+persistent mentat class c { select };

@@ -1,0 +1,1 @@
+int main() { x.y.z = 1; }
