@@ -1,0 +1,13 @@
+pub mod Images
+pub mod Frames
+pub mod Stacks
+pub mod Parts
+pub mod Steps
+pub mod Yields
+pub mod Guards
+pub mod Alone
+pub mod Told
+pub mod Listing
+pub mod Marks
+pub mod SmallCode
+pub mod SmallBodies
