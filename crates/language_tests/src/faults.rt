@@ -88,32 +88,27 @@ fn a_shelf_may_fail(rt: HostRuntime) -> Result<(), Fail> {
 /// the status stays.
 #[test]
 fn an_error_stream_may_fail(rt: HostRuntime) -> Result<(), Fail> {
-    let divided = Trap {
-        kind: TrapKind::DivZero,
+    let overflows = "int main() { print(9223372036854775807 + 1); }";
+    let overflow = Trap {
+        kind: TrapKind::Overflow,
         line: 1,
     };
     for (source, failing, status, turns, said) in [
-        ("int main() { print(1 / 0); }", 1, Status::WriteFault, 1, ""),
+        (overflows, 1, Status::WriteFault, 1, ""),
+        (overflows, 9, Status::WriteFault, 1, "mentat: "),
         (
-            "int main() { print(1 / 0); }",
-            9,
-            Status::WriteFault,
-            1,
-            "mentat: ",
-        ),
-        (
-            "int main() { print(1 / 0); }",
-            31,
-            Status::WriteFault,
-            1,
-            "mentat: trap DivZero at line 1",
-        ),
-        (
-            "int main() { print(1 / 0); }",
+            overflows,
             32,
-            Status::Trap(divided),
+            Status::WriteFault,
             1,
-            "mentat: trap DivZero at line 1\n",
+            "mentat: trap Overflow at line 1",
+        ),
+        (
+            overflows,
+            33,
+            Status::Trap(overflow),
+            1,
+            "mentat: trap Overflow at line 1\n",
         ),
         (
             "int main( {",
