@@ -11,6 +11,7 @@ fn replies_are_found_by_their_calls(rt: HostRuntime) -> Result<(), Fail> {
     let mut replies = Replies::new(rt.alloc());
     assert!(rt; replies.get(2).is_none());
     replies.set(2, Known::Trapped(trap))?;
+    assert!(rt; replies.get(1).is_none());
     replies.set(
         1,
         Known::Value(Words::from_slice(rt.alloc(), [6].as_slice())?),
