@@ -22,7 +22,7 @@ use Rattle.mpl_mean.specs.FirstForms.ExpressionLevels.{conjunction_text, equalit
 use Rattle.mpl_mean.specs.Text.ExpressionText as text
 use Rattle.mpl_mean.specs.Text.ExpressionText.{equality_mark, expression_text, relation_mark, sum_mark, term_mark}
 use Rattle.mpl_mean.specs.Text.Reading.{Reads, is_mark}
-use Rattle.mpl_mean.proofs.OneTree.BothRead.{told}
+use Rattle.mpl_mean.proofs.Readers.Parts.{told}
 use Rattle.mpl_grammar.specs.Internal.Kinds.{is_equality_operator, is_operator, is_relation_operator, is_sum_operator, is_term_operator}
 use Rattle.mpl_grammar.proofs.Makes.{Makes, ◌▸◌, place_of, reads-mark_on, reads-node, rest_at}
 use Rattle.mpl_mean.proofs.ExpressionInduction.{expression_rolls, conjunction_rolls, equality_rolls, relation_rolls, sum_rolls, term_rolls}

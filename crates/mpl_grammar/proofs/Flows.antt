@@ -19,8 +19,8 @@ use Rattle.mpl_mean.specs.Text.StatementText as text
 use Rattle.mpl_mean.specs.Text.StatementText.{assignment_text, call_text, flow_text}
 use Rattle.mpl_mean.specs.Text.Weight as weighing
 use Rattle.mpl_mean.specs.Text.Weight.{Weighs, ◌⨾◌, assignment_weighs, bracketed, call_weighs, expression_weighs, flow_weighs, place_weighs, plain, target_weighs, with_commas, whole}
-use Rattle.mpl_mean.proofs.OneTree.BothRead.{Reading, inside, parts}
-use Rattle.mpl_mean.proofs.OneTree.BothReadTokens.{took_first, took_keyword, took_mark, took_mark_on, took_name}
+use Rattle.mpl_mean.proofs.Readers.Parts.{Reading, inside, parts}
+use Rattle.mpl_mean.proofs.Readers.Tokens.{took_first, took_keyword, took_mark, took_mark_on, took_name}
 use Rattle.mpl_grammar.specs.Internal.Grammar.{Stack}
 use Rattle.mpl_grammar.specs.Internal.Machine.{next, weight}
 use Rattle.mpl_grammar.specs.declared.symbol.Symbol.TheVariants.{AFlow, AName, Assign, CloseBracket, CloseParenthesis, FlowField, FlowName, FlowOwn, FlowsIfAny, MoreFlows, OpenFlows, Operand}

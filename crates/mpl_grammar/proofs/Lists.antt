@@ -5,8 +5,8 @@ use Rattle.mpl_ast.specs.declared.token.Mark.TheVariants as m
 use Rattle.mpl_ast.specs.declared.token.TokenKind.TheVariants as kind
 use Rattle.mpl_mean.specs.Text.Reading.{Reads, Rest, after_first, mark, separated, separated_if_any}
 use Rattle.mpl_mean.specs.Text.Weight.{Weighs, each_after_comma, whole, with_commas}
-use Rattle.mpl_mean.proofs.OneTree.BothRead.{Reading, in_turn, some_same}
-use Rattle.mpl_mean.proofs.OneTree.BothReadTokens.{Heads, head, took_first, took_mark}
+use Rattle.mpl_mean.proofs.Readers.Parts.{Reading, in_turn, some_same}
+use Rattle.mpl_mean.proofs.Readers.Tokens.{Heads, head, took_first, took_mark}
 use Rattle.mpl_grammar.specs.Internal.Grammar.{Stack}
 use Rattle.mpl_grammar.specs.Internal.Machine.{next, trace, weight}
 use Rattle.mpl_grammar.specs.declared.symbol.Symbol.{Symbol}

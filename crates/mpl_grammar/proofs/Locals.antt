@@ -16,8 +16,8 @@ use Rattle.mpl_ast.specs.declared.token.TokenKind.TheVariants as kind
 use Rattle.mpl_mean.specs.Text.Reading.{Reads, Rest, after_first, is_number, keyword, mark, mark_on, name, number, optional, separated}
 use Rattle.mpl_mean.specs.Text.StatementText.{declarator_text, dimension_text, flow_text, local_text, type_text}
 use Rattle.mpl_mean.specs.Text.Weight.{declarator_weighs, dimension_weighs, local_weighs, plain}
-use Rattle.mpl_mean.proofs.OneTree.BothRead.{Reading, in_turn, inside, parts, some_same}
-use Rattle.mpl_mean.proofs.OneTree.BothReadTokens.{Heads, Took, number_is, took_first, took_keyword, took_mark, took_mark_on, took_name, token_read}
+use Rattle.mpl_mean.proofs.Readers.Parts.{Reading, in_turn, inside, parts, some_same}
+use Rattle.mpl_mean.proofs.Readers.Tokens.{Heads, Took, number_is, took_first, took_keyword, took_mark, took_mark_on, took_name, token_read}
 use Rattle.mpl_mean.proofs.Truth.{both_true}
 use Rattle.mpl_grammar.specs.Internal.Grammar.{Stack}
 use Rattle.mpl_grammar.specs.Internal.Machine.{next, weight}

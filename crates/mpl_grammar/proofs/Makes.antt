@@ -18,7 +18,7 @@ use Rattle.mpl_ast.specs.declared.token.TokenKind.{TokenKind}
 use Rattle.mpl_ast.specs.declared.token.TokenKind.TheVariants as kind
 use Rattle.mpl_mean.specs.Text.Reading.{Reads, Rest, ◌>>◌, after_first, each, is_keyword, is_mark, is_name, is_number, keyword, mark, mark_on, name, node, number, separated, separated_if_any, token}
 use Rattle.mpl_mean.specs.Text.StatementText.{type_text}
-use Rattle.mpl_mean.proofs.OneTree.BothRead.{Reading}
+use Rattle.mpl_mean.proofs.Readers.Parts.{Reading}
 use Rattle.mpl_grammar.specs.Internal.Kinds.{is_any_name, is_any_number, is_basic_type, is_type}
 
 -- ---- one token

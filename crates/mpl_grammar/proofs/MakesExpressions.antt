@@ -20,7 +20,7 @@ use Rattle.mpl_mean.specs.Text.ExpressionText.{expression_text, place_text, targ
 use Rattle.mpl_mean.specs.Text.Reading.{Reads, is_keyword, is_mark}
 use Rattle.mpl_mean.specs.Text.StatementText as statement
 use Rattle.mpl_mean.specs.Text.StatementText.{assignment_text, call_text, flow_text}
-use Rattle.mpl_mean.proofs.OneTree.BothRead.{told}
+use Rattle.mpl_mean.proofs.Readers.Parts.{told}
 use Rattle.mpl_grammar.specs.Internal.Kinds.{is_any_name, is_any_number, is_constant, is_unary}
 use Rattle.mpl_grammar.proofs.Chains.{Pieces, makes-chain}
 use Rattle.mpl_grammar.proofs.Makes.{Makes, ◌▸◌, all_separated_if_any, named, past, place_of, reads-keyword, reads-mark, reads-mark_on, reads-name, reads-node, reads-value, rest_at, value_of}

@@ -12,7 +12,7 @@ use Rattle.mpl_mean.specs.Text.ExpressionText.{expression_text, target_text}
 use Rattle.mpl_mean.specs.Text.Reading.{Reads, is_keyword, is_mark}
 use Rattle.mpl_mean.specs.Text.StatementText as text
 use Rattle.mpl_mean.specs.Text.StatementText.{StatementText, assignment_text, before_else, block_of, block_text, call_text, declarator_text, dimension_text, flow_text, for_head_text, for_start_text, local_text, refused, statement_of, statement_text}
-use Rattle.mpl_mean.proofs.OneTree.BothRead.{Reading, told}
+use Rattle.mpl_mean.proofs.Readers.Parts.{Reading, told}
 use Rattle.mpl_grammar.specs.Internal.Kinds.{is_any_name, is_any_number, is_type}
 use Rattle.mpl_grammar.proofs.Makes.{Makes, ◌▸◌, all_after_first, all_separated, makes-separated, makes-type, named, numbered, past, place_of, reads-keyword, reads-mark, reads-mark_on, reads-name, reads-node, reads-number, rest_at}
 use Rattle.mpl_grammar.proofs.Parts.{Around, Brackets, ElsePart, MadeStatement, StatementMakes, UpTo, any, around, brackets, else_first, no_else, up_to, with_else}

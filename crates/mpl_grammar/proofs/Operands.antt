@@ -17,8 +17,8 @@ use Rattle.mpl_ast.specs.declared.token.TokenKind.TheVariants as kind
 use Rattle.mpl_mean.specs.Text.ExpressionText.{equality_mark, relation_mark, sum_mark, term_mark, unary_mark}
 use Rattle.mpl_mean.specs.Text.Reading.{Reads, Rest, ◌>>◌, is_mark, mark_on, node}
 use Rattle.mpl_mean.specs.Text.Weight.{Weighs, ◌⨾◌, binary, counted}
-use Rattle.mpl_mean.proofs.OneTree.BothRead.{Reading, Through, inside, parts}
-use Rattle.mpl_mean.proofs.OneTree.BothReadTokens.{took_mark_on}
+use Rattle.mpl_mean.proofs.Readers.Parts.{Reading, Through, inside, parts}
+use Rattle.mpl_mean.proofs.Readers.Tokens.{took_mark_on}
 use Rattle.mpl_grammar.specs.Internal.Grammar.{Stack}
 use Rattle.mpl_grammar.specs.Internal.Kinds.{is_operator}
 use Rattle.mpl_grammar.specs.Internal.Machine.{next, weight}

@@ -12,7 +12,7 @@ use Rattle.mpl_mean.specs.FirstForms.ExpressionLevels.{primary_text, unary_text}
 use Rattle.mpl_mean.specs.Text.ProgramText.{entry_text, field_name_text, field_text, formal_text, formals_text, guard_text, item_text}
 use Rattle.mpl_mean.specs.Text.Reading.{Reads, is_keyword, is_mark, optional}
 use Rattle.mpl_mean.specs.Text.StatementText.{assignment_text, block_text, declarator_text, dimension_text, flow_text, for_head_text, for_start_text, statement_of, statement_text}
-use Rattle.mpl_mean.proofs.OneTree.BothRead.{Reading}
+use Rattle.mpl_mean.proofs.Readers.Parts.{Reading}
 use Rattle.mpl_grammar.specs.Internal.Grammar.{Row, Stack, before}
 use Rattle.mpl_grammar.specs.Internal.Kinds.{is_any_name, is_any_number, is_type}
 use Rattle.mpl_grammar.specs.declared.symbol.Symbol.{Symbol}

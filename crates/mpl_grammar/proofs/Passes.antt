@@ -4,7 +4,7 @@ use Rattle.mpl_ast.specs.declared.token.Token.{Token}
 use Rattle.mpl_ast.specs.declared.token.TokenKind.{TokenKind}
 use Rattle.mpl_mean.specs.Text.Reading.{Rest}
 use Rattle.mpl_mean.specs.Text.Weight.{Weighs, no_token, ◌⨾◌, plain, counted, closing, whole, bracketed}
-use Rattle.mpl_mean.proofs.OneTree.BothReadTokens.{Heads, Took, head}
+use Rattle.mpl_mean.proofs.Readers.Tokens.{Heads, Took, head}
 use Rattle.mpl_grammar.specs.Internal.Grammar.{Row, Stack, may_end}
 use Rattle.mpl_grammar.specs.Internal.Machine.{Trace, Weighs as AWeight, found, next, onward, or_later, takes, trace, weight}
 use Rattle.mpl_grammar.specs.declared.symbol.Symbol.{Symbol}

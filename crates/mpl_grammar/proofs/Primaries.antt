@@ -13,8 +13,8 @@ use Rattle.mpl_ast.specs.declared.token.TokenKind.TheVariants as kind
 use Rattle.mpl_mean.specs.Text.ExpressionText.{target_text}
 use Rattle.mpl_mean.specs.Text.Reading.{Reads, Rest, ◌>>◌, is_number, keyword, mark, mark_on, name, node, separated_if_any, token}
 use Rattle.mpl_mean.specs.Text.Weight.{Weighs, ◌⨾◌, bracketed, no_token, plain, target_weighs, whole, with_commas}
-use Rattle.mpl_mean.proofs.OneTree.BothRead.{Reading, Through, inside, parts}
-use Rattle.mpl_mean.proofs.OneTree.BothReadTokens.{Took, number_is, took_first, took_keyword, took_mark, took_mark_on, took_name, took_number, token_read}
+use Rattle.mpl_mean.proofs.Readers.Parts.{Reading, Through, inside, parts}
+use Rattle.mpl_mean.proofs.Readers.Tokens.{Took, number_is, took_first, took_keyword, took_mark, took_mark_on, took_name, took_number, token_read}
 use Rattle.mpl_mean.proofs.Truth.{both_true}
 use Rattle.mpl_grammar.specs.Internal.Grammar.{Stack}
 use Rattle.mpl_grammar.specs.Internal.Machine.{next, weight}

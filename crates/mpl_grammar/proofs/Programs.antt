@@ -32,8 +32,8 @@ use Rattle.mpl_mean.specs.Text.ProgramText.{all_of, declaration_text, entry_text
 use Rattle.mpl_mean.specs.Text.Reading.{Reads, Rest, after_first, each, keyword, mark, mark_on, name, number, optional, separated}
 use Rattle.mpl_mean.specs.Text.StatementText.{block_text, dimension_text, type_text}
 use Rattle.mpl_mean.specs.Text.Weight.{Weighs, ◌⨾◌, block_weighs, bracketed, declaration_weighs, dimension_weighs, entry_weighs, field_name_weighs, field_weighs, formals_weighs, guard_weighs, if_any, in_order, item_weighs, plain, weights}
-use Rattle.mpl_mean.proofs.OneTree.BothRead.{Reading, if_read, in_turn, inside, parts, some_same}
-use Rattle.mpl_mean.proofs.OneTree.BothReadTokens.{Heads, Took, head, took_first, took_keyword, took_mark, took_mark_on, took_name}
+use Rattle.mpl_mean.proofs.Readers.Parts.{Reading, if_read, in_turn, inside, parts, some_same}
+use Rattle.mpl_mean.proofs.Readers.Tokens.{Heads, Took, head, took_first, took_keyword, took_mark, took_mark_on, took_name}
 use Rattle.mpl_grammar.specs.Internal.Grammar.{Stack}
 use Rattle.mpl_grammar.specs.Internal.Machine.{Ends, Weighs as Weighing, next, trace, weight}
 use Rattle.mpl_grammar.specs.declared.symbol.Symbol.TheVariants.{ABlock, AName, AType, AcceptWord, BehindItemName, ClassWord, CloseParenthesis, DimensionIfAny, Entries, Fields, FormalsIfAny, GuardIfAny, Items, MentatWord, MoreFormals, MoreNames, OpenFormals, OpenItems, Semicolon}

@@ -26,8 +26,8 @@ use Rattle.mpl_mean.specs.Text.StatementText as text
 use Rattle.mpl_mean.specs.Text.StatementText.{StatementText, assignment_text, before_else, block_of, block_text, call_text, declarator_text, flow_text, for_head_text, for_start_text, local_text, refused, statement_of, statement_text, texts, type_text}
 use Rattle.mpl_mean.specs.Text.Weight as weighing
 use Rattle.mpl_mean.specs.Text.Weight.{Weighs, ◌⨾◌, assignment_weighs, block_weighs, bracketed, call_weighs, else_weighs, expression_weighs, flow_weighs, for_head_weighs, for_start_weighs, if_any, in_order, local_weighs, no_token, operand_weighs, plain, statement_weighs, target_weighs, with_commas, worded, whole}
-use Rattle.mpl_mean.proofs.OneTree.BothRead.{Reading, in_turn, inside, parts}
-use Rattle.mpl_mean.proofs.OneTree.BothReadTokens.{Heads, Took, took_first, took_keyword, took_mark, took_name}
+use Rattle.mpl_mean.proofs.Readers.Parts.{Reading, in_turn, inside, parts}
+use Rattle.mpl_mean.proofs.Readers.Tokens.{Heads, Took, took_first, took_keyword, took_mark, took_name}
 use Rattle.mpl_grammar.specs.Internal.Grammar.{Stack}
 use Rattle.mpl_grammar.specs.Internal.Machine.{next, weight}
 use Rattle.mpl_grammar.specs.declared.symbol.Symbol.TheVariants.{AName, AStatement, AssignedField, AssignedName, CloseParenthesis, ElseIfAny, ExpressionIfAny, ForName, ForStart as AForStart, ForStep, OpenNothing, Operand, Semicolon, WordEnd}

@@ -11,8 +11,8 @@ use Rattle.mpl_mean.specs.Text.ExpressionText.{expression_text}
 use Rattle.mpl_mean.specs.Text.Reading.{Reads, Rest, each, is_keyword, mark, mark_on}
 use Rattle.mpl_mean.specs.Text.StatementText.{StatementText, block_of, texts}
 use Rattle.mpl_mean.specs.Text.Weight.{Weighs, bracketed, expression_weighs, in_order}
-use Rattle.mpl_mean.proofs.OneTree.BothRead.{Reading, in_turn, inside, parts, some_same}
-use Rattle.mpl_mean.proofs.OneTree.BothReadTokens.{Heads, Took, head, took_first, took_mark, took_mark_on}
+use Rattle.mpl_mean.proofs.Readers.Parts.{Reading, in_turn, inside, parts, some_same}
+use Rattle.mpl_mean.proofs.Readers.Tokens.{Heads, Took, head, took_first, took_mark, took_mark_on}
 use Rattle.mpl_grammar.specs.Internal.Grammar.{Stack}
 use Rattle.mpl_grammar.specs.Internal.Machine.{next, weight}
 use Rattle.mpl_grammar.specs.declared.symbol.Symbol.TheVariants.{AName, AStatement, BlockRest, CloseParenthesis, Dot, ElseIfAny, ExpressionIfAny, OpenFlow, OpenFlows, OpenFor, OpenPrint, OpenTest, Semicolon, StatementDot, StatementField, StatementFieldDot, StatementName, WordEnd}

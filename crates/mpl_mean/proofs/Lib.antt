@@ -1,5 +1,5 @@
 pub mod TokensAreFew
-pub mod OneTree
+pub mod Readers
 pub mod SevenRules
 pub mod LeastRefusal
 pub mod Simulations

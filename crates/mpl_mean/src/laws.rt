@@ -25,11 +25,6 @@ pub fn tokens_are_few()
     ensures { (source : List ℕ) (tokens : List Token) → tokens_of source ≡ Ok tokens → length tokens ≤ length source }
 {}
 
-/// No two programs of the first form have the same tokens.
-pub fn tokens_have_one_tree()
-    ensures { (p q : Program) (tokens : List Token) → is_first_form p ≡ true → is_first_form q ≡ true → spells p tokens ≡ true → spells q tokens ≡ true → p ≡ q }
-{}
-
 /// A refusal names a rule that fails at its byte, and of all that fail none comes before it: not at a
 /// byte before, and no rule of a smaller number at the same byte. There is none exactly where no rule fails.
 pub fn refusals_are_least()

@@ -1,0 +1,3 @@
+-- What a reader of tokens did.
+pub mod Parts
+pub mod Tokens
