@@ -1,0 +1,10 @@
+pub mod Taking
+pub mod Ahead
+pub mod Rows
+pub mod Folds
+pub mod Expressions
+pub mod Flows
+pub mod Locals
+pub mod Statements
+pub mod Programs
+pub mod Sources
