@@ -1,0 +1,2 @@
+pub mod SourceRuns
+pub mod Sources
