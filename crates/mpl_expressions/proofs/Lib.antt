@@ -1,0 +1,5 @@
+pub mod Alike
+pub mod Numbers
+pub mod Pieces
+pub mod Sums
+pub mod Turns
