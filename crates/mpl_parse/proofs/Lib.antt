@@ -1,15 +1,3 @@
-mod Chains
-mod EndedCounts
-mod ExpressionTexts
-mod Forms
-mod Layers
-mod Leading
-mod Lookahead
-mod Operands
-mod Parsed
-mod StageSteps
-mod Steps
-mod Turns
-mod Weights
-mod Whole
-mod WholeClasses
+pub mod Declarations
+pub mod Depths
+mod Taken

@@ -1,262 +1,341 @@
-//! The classes of the first form: each member gives one expression by `rtf`.
+//! Fields, formals, and what stands in a class.
 
-ghost use Rattle.std.specs.List.{list_all};
-ghost use Rattle.std.specs.Prelude.{◌≡◌, ◌+◌, ◌<◌, ◌≤◌, ◌^◌, true, false, map, IfOk, OnOk, Err, Some, length};
-ghost use Rattle.mpl_ast.specs.declared.class.Formal.{Formal};
-ghost use Rattle.mpl_ast.specs.declared.token.Keyword.TheVariants as word;
-ghost use Rattle.mpl_ast.specs.declared.token.Mark.TheVariants as mark;
-ghost use Rattle.mpl_mean.specs.FirstForms.FirstForm.{are_ints, gives_result, is_class, is_first_item, is_int, is_int_result, is_one_result, is_regular};
-ghost use Rattle.mpl_mean.specs.Text.ProgramText.{declaration_text, formal_text, formals_text, item_text, kind_text, result_text};
-ghost use Rattle.mpl_mean.specs.Text.Reading.{is_mark, is_keyword, each, separated};
-ghost use Rattle.mpl_mean.specs.Text.StatementText.{block_text, statement_text, type_text};
-ghost use Rattle.mpl_parse.specs.Internal.Ahead.{first_is};
-ghost use Rattle.mpl_parse.specs.Internal.TokensAndWeights.{formals_to_end, is_light_block, is_light_declaration, is_light_item, is_light_statement};
-ghost use Rattle.mpl_parse.specs.Internal.Reader.{rest_of, numbered};
-ghost use Rattle.mpl_parse.specs.Internal.Stages as stage;
-ghost use Rattle.mpl_parse.specs.Internal.Stages.{leads};
+ghost use Rattle.std.specs.Prelude.{◌≡◌, Some};
+ghost use Rattle.mpl_ast.specs.declared.token.TokenKind.TheVariants as kind;
+ghost use Rattle.mpl_trees.specs.Programs as spec;
+ghost use Rattle.mpl_trees.specs.Taking as taking;
+ghost use Rattle.mpl_expressions.specs.Reader.{Took, rest_of};
+ghost use Rattle.mpl_parse.specs.Internal.Forms.{take_accepted, take_empty_item, take_entry_behind, take_field_item, take_formals_within, take_guard_if_any, take_private, take_public};
 
-use crate::ahead::{sees_keyword, sees_mark};
-use crate::expression::Role;
-use crate::parser::ParseFault;
-use crate::reader::Reader;
-use mpl_ast::class::{Formal, Formals, Item, Kind, ResultType};
-use mpl_ast::program::Declaration;
-use mpl_ast::statement::{Block, Statement, TypeName};
-use mpl_ast::token::{Keyword, Mark};
+use crate::local::{dimension_if_any, type_name};
+use crate::simple::test;
+use crate::statement::block;
+use mpl_ast::class::{Entry, Field, FieldName, Formal, Formals, Item, ResultType};
+use mpl_ast::expression::Expression;
+use mpl_ast::statement::Block;
+use mpl_ast::token::{Keyword, Mark, TokenKind};
+use mpl_ast::{Name, Number};
+use mpl_expressions::ahead::{second, sees_keyword, sees_mark};
+use mpl_expressions::{Reader, Stop};
 use sqlite_items::Items;
 use std::alloc::Global;
 
-impl<'a> Reader<'a> {
-    /// `class*`
-    pub fn classes(&mut self, alloc: Global) -> Result<Items<Declaration>, ParseFault>
-        requires room { numbered 12 (rest_of self.old) < 2 ^ 31 }
-        ensures text { IfOk result (λ ds. each (map declaration_text ds) (rest_of self.old) ≡ Some (rest_of self.new)) }
-        ensures built { IfOk result (λ ds. list_all is_class ds ≡ true) }
-        ensures light { IfOk result (λ ds. list_all is_light_declaration ds ≡ true) }
-        ensures end { OnOk result (first_is (is_keyword word.Regular) self.new.left.now ≡ false) }
-        ensures unfit { result ≡ Err ParseFault.Unfit → leads stage.BeforeDeclaration self.old.left.now ≡ false }
-        ensures room { OnOk result (numbered 12 (rest_of self.new) ≤ numbered 12 (rest_of self.old)) }
-    {
-        let mut classes = Items::new(alloc);
-        while sees_keyword(self.left, Keyword::Regular) {
-            let class = self.class(alloc)?;
-            classes.push(class)?;
+// ---- fields and formals
+
+fn field_name(alloc: Global, reader: &mut Reader<'_>) -> Result<FieldName, Stop>
+    ensures { Took spec.take_field_name (rest_of reader.old) result (rest_of reader.new) }
+{
+    let name = reader.name(alloc)?;
+    let dimension = dimension_if_any(reader)?;
+    Ok(FieldName { name, dimension })
+}
+
+fn field_names(alloc: Global, reader: &mut Reader<'_>) -> Result<Items<FieldName>, Stop>
+    ensures { Took (taking.some_of spec.take_field_name) (rest_of reader.old) result (rest_of reader.new) }
+{
+    let turns = reader.left.len();
+    let mut list = Items::new(alloc);
+    let first = field_name(alloc, reader)?;
+    list.push(first)?;
+    for _turn in 0..turns {
+        if !sees_mark(reader.left, Mark::Comma) {
+            return Ok(list);
         }
-        Ok(classes)
+        reader.mark(Mark::Comma)?;
+        let next = field_name(alloc, reader)?;
+        list.push(next)?;
     }
+    Ok(list)
+}
 
-    /// `'regular' 'mentat' 'class' NAME '{' member* '}' ';'`, of which `regular` is the next token.
-    fn class(&mut self, alloc: Global) -> Result<Declaration, ParseFault>
-        requires first { first_is (is_keyword word.Regular) self.old.left.now ≡ true }
-        requires room { numbered 12 (rest_of self.old) < 2 ^ 31 }
-        ensures text { IfOk result (λ d. declaration_text d (rest_of self.old) ≡ Some (rest_of self.new)) }
-        ensures built { IfOk result (λ d. is_class d ≡ true) }
-        ensures light { IfOk result (λ d. is_light_declaration d ≡ true) }
-        ensures unfit { result ≡ Err ParseFault.Unfit → leads stage.BeforeDeclaration self.old.left.now ≡ false }
-        ensures room { OnOk result (numbered 12 (rest_of self.new) ≤ numbered 12 (rest_of self.old)) }
-        ensures shorter { OnOk result (length self.new.left.now < length self.old.left.now) }
-    {
-        let start = self.start();
-        let kind = self.regular();
-        self.keyword(Keyword::Mentat)?;
-        self.keyword(Keyword::Class)?;
-        let name = self.name(alloc)?;
-        self.mark(Mark::OpenBrace)?;
-        let items = self.members(alloc)?;
-        let mark_line = self.mark(Mark::CloseBrace)?;
-        self.mark(Mark::Semicolon)?;
-        Ok(Declaration::Class(self.finish(start), mark_line, kind, name, items))
-    }
+pub fn field(alloc: Global, reader: &mut Reader<'_>) -> Result<Field, Stop>
+    ensures { Took spec.take_field (rest_of reader.old) result (rest_of reader.new) }
+{
+    let start = reader.start()?;
+    let type_name = type_name(alloc, reader)?;
+    let names = field_names(alloc, reader)?;
+    reader.mark(Mark::Semicolon)?;
+    Ok(Field {
+        at: reader.finish(start),
+        type_name,
+        names,
+    })
+}
 
-    /// `'regular'`, which is the next token.
-    fn regular(&mut self) -> Kind
-        requires first { first_is (is_keyword word.Regular) self.old.left.now ≡ true }
-        requires room { self.old.next + 1 < 2 ^ 32 }
-        ensures text { kind_text result (rest_of self.old) ≡ Some (rest_of self.new) }
-        ensures built { is_regular result ≡ true }
-        ensures room { numbered 12 (rest_of self.new) + 10 ≤ numbered 12 (rest_of self.old) }
-        ensures shorter { length self.new.left.now < length self.old.left.now }
-    {
-        let start = self.start();
-        self.take();
-        Kind::Regular(self.finish(start))
-    }
+fn formal(alloc: Global, reader: &mut Reader<'_>) -> Result<Formal, Stop>
+    ensures { Took spec.take_formal (rest_of reader.old) result (rest_of reader.new) }
+{
+    let type_name = type_name(alloc, reader)?;
+    let name = reader.name(alloc)?;
+    Ok(Formal { type_name, name })
+}
 
-    /// `member*`
-    fn members(&mut self, alloc: Global) -> Result<Items<Item>, ParseFault>
-        requires room { numbered 12 (rest_of self.old) < 2 ^ 31 }
-        ensures text { IfOk result (λ items. each (map item_text items) (rest_of self.old) ≡ Some (rest_of self.new)) }
-        ensures built { IfOk result (λ items. list_all is_first_item items ≡ true) }
-        ensures light { IfOk result (λ items. list_all is_light_item items ≡ true) }
-        ensures end { OnOk result (first_is (is_keyword word.Int) self.new.left.now ≡ false) }
-        ensures unfit { result ≡ Err ParseFault.Unfit → leads stage.InClass self.old.left.now ≡ false }
-        ensures room { OnOk result (numbered 12 (rest_of self.new) ≤ numbered 12 (rest_of self.old)) }
-        ensures shorter { OnOk result (length self.new.left.now ≤ length self.old.left.now) }
-    {
-        let mut members = Items::new(alloc);
-        while sees_keyword(self.left, Keyword::Int) {
-            let member = self.member(alloc)?;
-            members.push(member)?;
+fn formal_list(alloc: Global, reader: &mut Reader<'_>) -> Result<Items<Formal>, Stop>
+    ensures { Took (taking.some_of spec.take_formal) (rest_of reader.old) result (rest_of reader.new) }
+{
+    let turns = reader.left.len();
+    let mut list = Items::new(alloc);
+    let first = formal(alloc, reader)?;
+    list.push(first)?;
+    for _turn in 0..turns {
+        if !sees_mark(reader.left, Mark::Comma) {
+            return Ok(list);
         }
-        Ok(members)
+        reader.mark(Mark::Comma)?;
+        let next = formal(alloc, reader)?;
+        list.push(next)?;
     }
+    Ok(list)
+}
 
-    /// `'int' NAME '(' formals? ')' '{' 'rtf' '(' expr ')' ';' '}'`, of which `int` is the next token.
-    fn member(&mut self, alloc: Global) -> Result<Item, ParseFault>
-        requires first { first_is (is_keyword word.Int) self.old.left.now ≡ true }
-        requires room { numbered 12 (rest_of self.old) < 2 ^ 31 }
-        ensures text { IfOk result (λ i. item_text i (rest_of self.old) ≡ Some (rest_of self.new)) }
-        ensures built { IfOk result (λ i. is_first_item i ≡ true) }
-        ensures light { IfOk result (λ i. is_light_item i ≡ true) }
-        ensures unfit { result ≡ Err ParseFault.Unfit → leads stage.InClass self.old.left.now ≡ false }
-        ensures room { OnOk result (numbered 12 (rest_of self.new) ≤ numbered 12 (rest_of self.old)) }
-        ensures shorter { OnOk result (length self.new.left.now < length self.old.left.now) }
-    {
-        let start = self.start();
-        let result_type = self.int_result();
-        let name = self.name(alloc)?;
-        self.mark(Mark::OpenParenthesis)?;
-        let formals = self.formals(alloc)?;
-        let body = self.result_block(alloc)?;
-        Ok(Item::Member(self.finish(start), result_type, name, formals, body))
+fn formals(alloc: Global, reader: &mut Reader<'_>) -> Result<Formals, Stop>
+    ensures { Took spec.take_formals (rest_of reader.old) result (rest_of reader.new) }
+{
+    let start = reader.start()?;
+    let list = formal_list(alloc, reader)?;
+    Ok(Formals {
+        at: reader.finish(start),
+        list,
+    })
+}
+
+fn formals_within(alloc: Global, reader: &mut Reader<'_>) -> Result<Option<Formals>, Stop>
+    ensures { Took take_formals_within (rest_of reader.old) result (rest_of reader.new) }
+{
+    if sees_mark(reader.left, Mark::CloseParenthesis) {
+        return Ok(None);
     }
+    let formals = formals(alloc, reader)?;
+    Ok(Some(formals))
+}
 
-    /// `'int'`, which is the next token.
-    fn int_result(&mut self) -> ResultType
-        requires first { first_is (is_keyword word.Int) self.old.left.now ≡ true }
-        requires room { self.old.next + 2 < 2 ^ 32 }
-        ensures text { result_text result (rest_of self.old) ≡ Some (rest_of self.new) }
-        ensures built { is_int_result result ≡ true }
-        ensures room { numbered 12 (rest_of self.new) + 10 ≤ numbered 12 (rest_of self.old) }
-        ensures shorter { length self.new.left.now < length self.old.left.now }
-    {
-        let start = self.start();
-        let type_name = self.int();
-        ResultType::Typed(self.finish(start), type_name)
+/// The formals with their parentheses.
+fn formals_if_any(alloc: Global, reader: &mut Reader<'_>) -> Result<Option<Formals>, Stop>
+    ensures { Took spec.take_formals_if_any (rest_of reader.old) result (rest_of reader.new) }
+{
+    reader.mark(Mark::OpenParenthesis)?;
+    let formals = formals_within(alloc, reader)?;
+    reader.mark(Mark::CloseParenthesis)?;
+    Ok(formals)
+}
+
+fn body(alloc: Global, reader: &mut Reader<'_>) -> Result<Block, Stop>
+    ensures { Took spec.take_body (rest_of reader.old) result (rest_of reader.new) }
+{
+    let depth = reader.left.len();
+    block(alloc, reader, depth)
+}
+
+/// Formals and a body.
+pub fn function(alloc: Global, reader: &mut Reader<'_>) -> Result<(Option<Formals>, Block), Stop>
+    ensures { Took spec.take_function (rest_of reader.old) result (rest_of reader.new) }
+{
+    let formals = formals_if_any(alloc, reader)?;
+    let body = body(alloc, reader)?;
+    Ok((formals, body))
+}
+
+// ---- entries
+
+fn guard(alloc: Global, reader: &mut Reader<'_>) -> Result<Expression, Stop>
+    ensures { Took spec.take_guard (rest_of reader.old) result (rest_of reader.new) }
+{
+    let depth = reader.left.len();
+    reader.keyword(Keyword::Guard)?;
+    test(alloc, reader, depth)
+}
+
+fn guard_if_any(alloc: Global, reader: &mut Reader<'_>) -> Result<Option<Expression>, Stop>
+    ensures { Took take_guard_if_any (rest_of reader.old) result (rest_of reader.new) }
+{
+    if !sees_keyword(reader.left, Keyword::Guard) {
+        return Ok(None);
     }
+    let guard = guard(alloc, reader)?;
+    Ok(Some(guard))
+}
 
-    /// `formals? ')'`
-    fn formals(&mut self, alloc: Global) -> Result<Option<Formals>, ParseFault>
-        requires room { numbered 12 (rest_of self.old) < 2 ^ 31 }
-        ensures text { IfOk result (λ f. formals_to_end f (rest_of self.old) ≡ Some (rest_of self.new)) }
-        ensures built { IfOk result (λ f. are_ints f ≡ true) }
-        ensures unfit { result ≡ Err ParseFault.Unfit → leads stage.InFormals self.old.left.now ≡ false }
-        ensures room { OnOk result (numbered 12 (rest_of self.new) ≤ numbered 12 (rest_of self.old)) }
-        ensures shorter { OnOk result (length self.new.left.now < length self.old.left.now) }
-    {
-        if sees_mark(self.left, Mark::CloseParenthesis) {
-            self.take();
-            return Ok(None);
+/// The member that an entry accepts.
+fn accepted(alloc: Global, reader: &mut Reader<'_>) -> Result<Name, Stop>
+    ensures { Took take_accepted (rest_of reader.old) result (rest_of reader.new) }
+{
+    reader.keyword(Keyword::Accept)?;
+    let member = reader.name(alloc)?;
+    reader.mark(Mark::Semicolon)?;
+    Ok(member)
+}
+
+/// An entry behind its first word.
+fn entry_behind(
+    alloc: Global,
+    reader: &mut Reader<'_>,
+) -> Result<(Number, (Option<Expression>, Name)), Stop>
+    ensures { Took take_entry_behind (rest_of reader.old) result (rest_of reader.new) }
+{
+    let priority = reader.number()?;
+    reader.mark(Mark::Colon)?;
+    let guard = guard_if_any(alloc, reader)?;
+    let member = accepted(alloc, reader)?;
+    Ok((priority, (guard, member)))
+}
+
+fn entry(alloc: Global, reader: &mut Reader<'_>) -> Result<Entry, Stop>
+    ensures { Took spec.take_entry (rest_of reader.old) result (rest_of reader.new) }
+{
+    let start = reader.start()?;
+    reader.keyword(Keyword::Priority)?;
+    let (priority, (guard, member)) = entry_behind(alloc, reader)?;
+    Ok(Entry {
+        at: reader.finish(start),
+        priority,
+        guard,
+        member,
+    })
+}
+
+fn entries(alloc: Global, reader: &mut Reader<'_>, turns: usize) -> Result<Items<Entry>, Stop>
+    ensures { Took (taking.all_of spec.take_entry turns) (rest_of reader.old) result (rest_of reader.new) }
+{
+    let mut list = Items::new(alloc);
+    for _turn in 0..turns {
+        if sees_mark(reader.left, Mark::CloseBrace) {
+            return Ok(list);
         }
-        let formals = self.some_formals(alloc)?;
-        self.mark(Mark::CloseParenthesis)?;
-        Ok(Some(formals))
+        let next = entry(alloc, reader)?;
+        list.push(next)?;
     }
+    Ok(list)
+}
 
-    /// `('int' NAME) % ','`
-    fn some_formals(&mut self, alloc: Global) -> Result<Formals, ParseFault>
-        requires room { numbered 12 (rest_of self.old) < 2 ^ 31 }
-        ensures text { IfOk result (λ f. formals_text f (rest_of self.old) ≡ Some (rest_of self.new)) }
-        ensures built { IfOk result (λ f. are_ints (Some f) ≡ true) }
-        ensures end { OnOk result (first_is (is_mark mark.Comma) self.new.left.now ≡ false) }
-        ensures unfit { result ≡ Err ParseFault.Unfit → leads stage.BeforeFormalType self.old.left.now ≡ false }
-        ensures room { OnOk result (numbered 12 (rest_of self.new) ≤ numbered 12 (rest_of self.old)) }
-        ensures shorter { OnOk result (length self.new.left.now < length self.old.left.now) }
-    {
-        if !sees_keyword(self.left, Keyword::Int) {
-            return Err(ParseFault::Unfit);
-        }
-        let start = self.start();
-        let list = self.formal_list(alloc)?;
-        Ok(Formals {
-            at: self.finish(start),
-            list,
-        })
+// ---- items
+
+fn void(reader: &mut Reader<'_>) -> Result<ResultType, Stop>
+    ensures { Took spec.take_void (rest_of reader.old) result (rest_of reader.new) }
+{
+    let start = reader.start()?;
+    reader.keyword(Keyword::Void)?;
+    Ok(ResultType::Void(reader.finish(start)))
+}
+
+fn typed(alloc: Global, reader: &mut Reader<'_>) -> Result<ResultType, Stop>
+    ensures { Took spec.take_typed (rest_of reader.old) result (rest_of reader.new) }
+{
+    let start = reader.start()?;
+    let type_name = type_name(alloc, reader)?;
+    Ok(ResultType::Typed(reader.finish(start), type_name))
+}
+
+fn void_member(alloc: Global, reader: &mut Reader<'_>) -> Result<Item, Stop>
+    ensures { Took (spec.take_member spec.take_void) (rest_of reader.old) result (rest_of reader.new) }
+{
+    let start = reader.start()?;
+    let result_type = void(reader)?;
+    let name = reader.name(alloc)?;
+    let (formals, body) = function(alloc, reader)?;
+    Ok(Item::Member(reader.finish(start), result_type, name, formals, body))
+}
+
+fn typed_member(alloc: Global, reader: &mut Reader<'_>) -> Result<Item, Stop>
+    ensures { Took (spec.take_member spec.take_typed) (rest_of reader.old) result (rest_of reader.new) }
+{
+    let start = reader.start()?;
+    let result_type = typed(alloc, reader)?;
+    let name = reader.name(alloc)?;
+    let (formals, body) = function(alloc, reader)?;
+    Ok(Item::Member(reader.finish(start), result_type, name, formals, body))
+}
+
+fn field_item(alloc: Global, reader: &mut Reader<'_>) -> Result<Item, Stop>
+    ensures { Took take_field_item (rest_of reader.old) result (rest_of reader.new) }
+{
+    let start = reader.start()?;
+    let field = field(alloc, reader)?;
+    Ok(Item::OfField(reader.finish(start), field))
+}
+
+/// What begins with a type: a member or a field.
+fn typed_item(alloc: Global, reader: &mut Reader<'_>) -> Result<Item, Stop>
+    ensures { Took spec.take_typed_item (rest_of reader.old) result (rest_of reader.new) }
+{
+    if sees_mark(second(second(reader.left)), Mark::OpenParenthesis) {
+        typed_member(alloc, reader)
+    } else {
+        field_item(alloc, reader)
     }
+}
 
-    /// `('int' NAME) % ','`, of which `int` is the next token.
-    fn formal_list(&mut self, alloc: Global) -> Result<Items<Formal>, ParseFault>
-        requires room { numbered 12 (rest_of self.old) < 2 ^ 31 + 1 }
-        ensures text { IfOk result (λ fs. separated (map formal_text fs) (rest_of self.old) ≡ Some (rest_of self.new)) }
-        ensures built { IfOk result (λ fs. list_all (λ (f : Formal). is_int f.type_name) fs ≡ true) }
-        ensures end { OnOk result (first_is (is_mark mark.Comma) self.new.left.now ≡ false) }
-        ensures unfit { result ≡ Err ParseFault.Unfit → leads stage.BeforeFormalType self.old.left.now ≡ false }
-        ensures room { OnOk result (numbered 12 (rest_of self.new) + 2 ≤ numbered 12 (rest_of self.old)) }
-        ensures shorter { OnOk result (length self.new.left.now < length self.old.left.now) }
-    {
-        let mut formals = Items::new(alloc);
-        let first = self.formal(alloc)?;
-        formals.push(first)?;
-        while sees_mark(self.left, Mark::Comma) {
-            self.take();
-            let formal = self.formal(alloc)?;
-            formals.push(formal)?;
-        }
-        Ok(formals)
+fn select(alloc: Global, reader: &mut Reader<'_>) -> Result<Item, Stop>
+    ensures { Took spec.take_select (rest_of reader.old) result (rest_of reader.new) }
+{
+    let start = reader.start()?;
+    reader.keyword(Keyword::Select)?;
+    let (entries, mark_line) = braced_entries(alloc, reader)?;
+    Ok(Item::Select(reader.finish(start), mark_line, entries))
+}
+
+/// Entries in braces, and the line of the last.
+fn braced_entries(alloc: Global, reader: &mut Reader<'_>) -> Result<(Items<Entry>, u32), Stop>
+    ensures { Took (spec.take_braced spec.take_entry) (rest_of reader.old) result (rest_of reader.new) }
+{
+    let turns = reader.left.len();
+    reader.mark(Mark::OpenBrace)?;
+    let entries = entries(alloc, reader, turns)?;
+    let line = reader.line();
+    reader.mark(Mark::CloseBrace)?;
+    Ok((entries, line))
+}
+
+fn public(reader: &mut Reader<'_>) -> Result<Item, Stop>
+    ensures { Took take_public (rest_of reader.old) result (rest_of reader.new) }
+{
+    let start = reader.start()?;
+    reader.keyword(Keyword::Public)?;
+    reader.mark(Mark::Colon)?;
+    Ok(Item::Public(reader.finish(start)))
+}
+
+fn private(reader: &mut Reader<'_>) -> Result<Item, Stop>
+    ensures { Took take_private (rest_of reader.old) result (rest_of reader.new) }
+{
+    let start = reader.start()?;
+    reader.keyword(Keyword::Private)?;
+    reader.mark(Mark::Colon)?;
+    Ok(Item::Private(reader.finish(start)))
+}
+
+fn empty(reader: &mut Reader<'_>) -> Result<Item, Stop>
+    ensures { Took take_empty_item (rest_of reader.old) result (rest_of reader.new) }
+{
+    let start = reader.start()?;
+    reader.mark(Mark::Semicolon)?;
+    Ok(Item::Empty(reader.finish(start)))
+}
+
+pub fn item(alloc: Global, reader: &mut Reader<'_>) -> Result<Item, Stop>
+    ensures { Took spec.take_item (rest_of reader.old) result (rest_of reader.new) }
+{
+    let [token, ..] = reader.left else {
+        return Err(Stop::Stuck);
+    };
+    match token.kind {
+        TokenKind::Name(_) => typed_item(alloc, reader),
+        TokenKind::Number(_) => Err(Stop::Stuck),
+        TokenKind::Keyword(word) => worded_item(alloc, reader, word),
+        TokenKind::Mark(Mark::Semicolon) => empty(reader),
+        TokenKind::Mark(_) => Err(Stop::Stuck),
     }
+}
 
-    /// `'int' NAME`
-    fn formal(&mut self, alloc: Global) -> Result<Formal, ParseFault>
-        requires room { numbered 12 (rest_of self.old) < 2 ^ 31 + 1 }
-        ensures text { IfOk result (λ f. formal_text f (rest_of self.old) ≡ Some (rest_of self.new)) }
-        ensures built { IfOk result (λ f. is_int f.type_name ≡ true) }
-        ensures unfit { result ≡ Err ParseFault.Unfit → leads stage.BeforeFormalType self.old.left.now ≡ false }
-        ensures room { OnOk result (numbered 12 (rest_of self.new) + 2 ≤ numbered 12 (rest_of self.old)) }
-        ensures shorter { OnOk result (length self.new.left.now < length self.old.left.now) }
-    {
-        if !sees_keyword(self.left, Keyword::Int) {
-            return Err(ParseFault::Unfit);
-        }
-        let type_name = self.int();
-        let name = self.name(alloc)?;
-        Ok(Formal { type_name, name })
-    }
-
-    /// `'{' 'rtf' '(' expr ')' ';' '}'`
-    fn result_block(&mut self, alloc: Global) -> Result<Block, ParseFault>
-        requires room { numbered 12 (rest_of self.old) < 2 ^ 31 }
-        ensures text { IfOk result (λ b. block_text b (rest_of self.old) ≡ Some (rest_of self.new)) }
-        ensures built { IfOk result (λ b. is_one_result b.statements ≡ true) }
-        ensures light { IfOk result (λ b. is_light_block 1 b ≡ true) }
-        ensures unfit { result ≡ Err ParseFault.Unfit → leads stage.BeforeBody self.old.left.now ≡ false }
-        ensures room { OnOk result (numbered 12 (rest_of self.new) ≤ numbered 12 (rest_of self.old)) }
-        ensures shorter { OnOk result (length self.new.left.now < length self.old.left.now) }
-    {
-        if !sees_mark(self.left, Mark::OpenBrace) {
-            return Err(ParseFault::Unfit);
-        }
-        let start = self.start();
-        self.take();
-        let statement = self.rtf(alloc)?;
-        let mark_line = self.mark(Mark::CloseBrace)?;
-        let mut statements = Items::new(alloc);
-        statements.push(statement)?;
-        Ok(Block {
-            at: self.finish(start),
-            mark_line,
-            statements,
-        })
-    }
-
-    /// `'rtf' '(' expr ')' ';'`
-    fn rtf(&mut self, alloc: Global) -> Result<Statement, ParseFault>
-        requires room { numbered 12 (rest_of self.old) < 2 ^ 31 }
-        ensures text { IfOk result (λ s. statement_text s (rest_of self.old) ≡ Some (rest_of self.new)) }
-        ensures built { IfOk result (λ s. gives_result s ≡ true) }
-        ensures light { IfOk result (λ s. is_light_statement 2 s ≡ true) }
-        ensures unfit { result ≡ Err ParseFault.Unfit → leads stage.BeforeRtf self.old.left.now ≡ false }
-        ensures room { OnOk result (numbered 12 (rest_of self.new) ≤ numbered 12 (rest_of self.old)) }
-        ensures shorter { OnOk result (length self.new.left.now < length self.old.left.now) }
-    {
-        if !sees_keyword(self.left, Keyword::Rtf) {
-            return Err(ParseFault::Unfit);
-        }
-        let start = self.start();
-        self.take();
-        self.mark(Mark::OpenParenthesis)?;
-        let value = self.flow(alloc, Role::Returned)?;
-        self.mark(Mark::CloseParenthesis)?;
-        self.mark(Mark::Semicolon)?;
-        Ok(Statement::Rtf(self.finish(start), value))
+/// What begins with a keyword.
+fn worded_item(alloc: Global, reader: &mut Reader<'_>, word: Keyword) -> Result<Item, Stop>
+    ensures { Took (spec.item_at (Some (kind.Keyword word))) (rest_of reader.old) result (rest_of reader.new) }
+{
+    match word {
+        Keyword::Int | Keyword::Bool => typed_item(alloc, reader),
+        Keyword::Void => void_member(alloc, reader),
+        Keyword::Select => select(alloc, reader),
+        Keyword::Public => public(reader),
+        Keyword::Private => private(reader),
+        _ => Err(Stop::Stuck),
     }
 }

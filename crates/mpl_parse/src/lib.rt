@@ -1,11 +1,13 @@
-//! Tokens to trees, of the programs of the first form.
+//! Tokens to trees.
 #![tactic(auto)]
 
-mod ahead;
 mod class;
-mod expression;
+mod declaration;
+mod flow;
+mod head;
+mod local;
 mod parser;
-mod reader;
+mod simple;
 mod statement;
 
 pub use parser::{ParseFault, parse};

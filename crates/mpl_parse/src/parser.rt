@@ -1,36 +1,27 @@
-//! The tree of the programs of the first form.
+//! The program that tokens are, or what is wrong with them first.
 
-ghost use Rattle.std.specs.Prelude.{◌≡◌, ◌+◌, ◌<◌, ◌≤◌, ◌^◌, true, false, map, codes, IfOk, OnOk, Err, Some, length};
-ghost use Rattle.std.specs.List.{list_all};
-ghost use Rattle.std.specs.Str.{bytes_eq};
-ghost use Rattle.mpl_ast.specs.declared.program.Program.{Program};
-ghost use Rattle.mpl_ast.specs.declared.token.Keyword.TheVariants as word;
-ghost use Rattle.mpl_mean.specs.FirstForms.FirstForm.{are_first, is_first_form, is_int, is_main};
-ghost use Rattle.mpl_mean.specs.Text.ProgramText.{spells, declaration_text};
-ghost use Rattle.mpl_mean.specs.Text.Reading.{is_keyword, is_name, name, each};
-ghost use Rattle.mpl_mean.specs.Text.StatementText.{type_text};
-ghost use Rattle.mpl_mean.specs.Text.Weight.{is_light};
-ghost use Rattle.mpl_parse.specs.Internal.Ahead.{first_is};
-ghost use Rattle.mpl_parse.specs.Internal.TokensAndWeights.{is_light_declaration};
-ghost use Rattle.mpl_parse.specs.Internal.Reader.{rest_of, numbered};
-ghost use Rattle.mpl_parse.specs.Internal.Stages as stage;
-ghost use Rattle.mpl_parse.specs.Internal.Stages.{leads};
+ghost use Rattle.std.specs.Prelude.{◌≡◌, ◌≤◌, true, length, IfErr, IfOk};
 ghost use Rattle.mpl_mean.specs.Limits.{most_tokens};
+ghost use Rattle.mpl_mean.specs.Text.ProgramText.{spells};
+ghost use Rattle.mpl_mean.specs.Text.Weight.{is_light};
+ghost use Rattle.mpl_parse.specs.Fault.{IsFault};
 
-use crate::ahead::{sees_keyword, sees_name};
-use crate::reader::Reader;
-use mpl_ast::Name;
-use mpl_ast::program::{Declaration, Program};
-use mpl_ast::statement::TypeName;
-use mpl_ast::token::{Keyword, Mark, Tokens};
+use crate::declaration::program;
+use mpl_ast::program::Program;
+use mpl_ast::token::Tokens;
+use mpl_expressions::Stop;
+use mpl_grammar::{Fault, first_fault};
+use mpl_trees::programs_are_taken;
 use mpl_value::NoMemory;
-use sqlite_items::Items;
-use std::alloc::{AllocError, Global};
+use std::alloc::Global;
 
+/// What is wrong with tokens, and the byte at which it is.
 #[derive(Clone, Copy, Debug, PartialEq, Eq)]
 pub enum ParseFault {
-    /// No program of the first form has these tokens.
-    Unfit,
+    /// No program goes on so.
+    Syntax(u32),
+    /// Too many constructs are open.
+    TooDeep(u32),
     NoMemory,
 }
 
@@ -44,103 +35,22 @@ impl From<NoMemory> for ParseFault {
     }
 }
 
-impl From<AllocError> for ParseFault {
-    ghost use Rattle.mpl_parse.specs.declared.parser.ParseFault.TheVariants.{NoMemory};
-
-    ghost from_gives = { λ _ e. e ≡ NoMemory };
-
-    fn from(_error: AllocError) -> ParseFault {
-        ParseFault::NoMemory
-    }
-}
-
-/// The program of the first form that has these tokens.
+/// The program with these tokens. Its nodes are numbered from 0, outer before inner and left before right.
 pub fn parse(alloc: Global, tokens: &Tokens) -> Result<Program, ParseFault>
     requires { length tokens.now.list ≤ most_tokens }
     ensures text { IfOk result (λ p. spells p tokens.now.list ≡ true) }
-    ensures built { IfOk result (λ p. is_first_form p ≡ true) }
     ensures light { IfOk result (λ p. is_light p ≡ true) }
-    ensures unfit { result ≡ Err ParseFault.Unfit → (p : Program) → spells p tokens.now.list ≡ true → is_first_form p ≡ true → is_light p ≡ true → ⊥ }
+    ensures fault { IfErr result (λ e. IsFault tokens.now e) }
 {
-    let mut reader = Reader {
-        left: tokens.list.as_slice(),
-        last: 0,
-        next: 0,
-    };
-    if reader.left.is_empty() {
-        return Err(ParseFault::Unfit);
+    match first_fault(alloc, tokens)? {
+        Some(Fault::Syntax(at)) => return Err(ParseFault::Syntax(at)),
+        Some(Fault::TooDeep(at)) => return Err(ParseFault::TooDeep(at)),
+        None => {}
     }
-    let start = reader.start();
-    let declarations = reader.declarations(alloc)?;
-    if !reader.left.is_empty() {
-        return Err(ParseFault::Unfit);
-    }
-    Ok(Program {
-        at: reader.finish(start),
-        declarations,
-    })
-}
-
-impl<'a> Reader<'a> {
-    /// Classes, and then `main`.
-    fn declarations(&mut self, alloc: Global) -> Result<Items<Declaration>, ParseFault>
-        requires room { numbered 12 (rest_of self.old) < 2 ^ 31 }
-        ensures text { IfOk result (λ ds. each (map declaration_text ds) (rest_of self.old) ≡ Some (rest_of self.new)) }
-        ensures built { IfOk result (λ ds. are_first ds ≡ true) }
-        ensures light { IfOk result (λ ds. list_all is_light_declaration ds ≡ true) }
-        ensures unfit { result ≡ Err ParseFault.Unfit → leads stage.BeforeDeclaration self.old.left.now ≡ false }
-    {
-        let mut declarations = self.classes(alloc)?;
-        let main = self.main(alloc)?;
-        declarations.push(main)?;
-        Ok(declarations)
-    }
-
-    /// `'int' 'main' '(' ')' block`
-    fn main(&mut self, alloc: Global) -> Result<Declaration, ParseFault>
-        requires no_class { first_is (is_keyword word.Regular) self.old.left.now ≡ false }
-        requires room { numbered 12 (rest_of self.old) < 2 ^ 31 }
-        ensures text { IfOk result (λ d. declaration_text d (rest_of self.old) ≡ Some (rest_of self.new)) }
-        ensures built { IfOk result (λ d. is_main d ≡ true) }
-        ensures light { IfOk result (λ d. is_light_declaration d ≡ true) }
-        ensures unfit { result ≡ Err ParseFault.Unfit → leads stage.BeforeDeclaration self.old.left.now ≡ false }
-    {
-        if !sees_keyword(self.left, Keyword::Int) {
-            return Err(ParseFault::Unfit);
-        }
-        let start = self.start();
-        let result_type = self.int();
-        let name = self.main_name(alloc)?;
-        self.mark(Mark::OpenParenthesis)?;
-        self.mark(Mark::CloseParenthesis)?;
-        let body = self.block(alloc)?;
-        Ok(Declaration::Function(self.finish(start), result_type, name, None, body))
-    }
-
-    /// `'int'`, which is the next token.
-    pub fn int(&mut self) -> TypeName
-        requires first { first_is (is_keyword word.Int) self.old.left.now ≡ true }
-        requires room { self.old.next + 1 < 2 ^ 32 }
-        ensures text { type_text result (rest_of self.old) ≡ Some (rest_of self.new) }
-        ensures built { is_int result ≡ true }
-        ensures room { numbered 12 (rest_of self.new) + 10 ≤ numbered 12 (rest_of self.old) }
-        ensures shorter { length self.new.left.now < length self.old.left.now }
-    {
-        let start = self.start();
-        self.take();
-        TypeName::Int(self.finish(start))
-    }
-
-    /// The name `main`.
-    fn main_name(&mut self, alloc: Global) -> Result<Name, ParseFault>
-        ensures text { IfOk result (λ n. name n (rest_of self.old) ≡ Some (rest_of self.new)) }
-        ensures main { IfOk result (λ n. bytes_eq n.text (codes "main") ≡ true) }
-        ensures unfit { result ≡ Err ParseFault.Unfit → first_is (is_name (codes "main")) self.old.left.now ≡ false }
-        ensures room { OnOk result (numbered 12 (rest_of self.new) ≤ numbered 12 (rest_of self.old)) }
-    {
-        if !sees_name(self.left, b"main") {
-            return Err(ParseFault::Unfit);
-        }
-        Ok(self.take_name(alloc)?)
+    programs_are_taken();
+    match program(alloc, tokens.list.as_slice()) {
+        Ok(program) => Ok(program),
+        Err(Stop::NoMemory) => Err(ParseFault::NoMemory),
+        Err(Stop::Stuck) => unreachable!(),
     }
 }

@@ -1,0 +1,10 @@
+use Rattle.std.proofs.Common.{◌≡◌, ◌-◌}
+use Rattle.mpl_trees.specs.Flows.{take_flow}
+use Rattle.mpl_trees.specs.Locals.{take_declarator}
+use Rattle.mpl_trees.specs.Taking.{more_of, some_of}
+use Rattle.mpl_expressions.specs.Reader.{most_number, rest_of}
+use Rattle.mpl_expressions.proofs.Turns.{behind}
+use Rattle.mpl_parse.proofs.local.declarators.Given as goal
+
+abbrev pub invariant-loop-turn : goal.invariant-loop-turn
+invariant-loop-turn l = some_of (take_declarator (take_flow l.depth)) most_number (rest_of l.fn.reader) ≡ behind l.list (more_of (take_declarator (take_flow l.depth)) (l.turns - l._turn) most_number (rest_of l.reader))

@@ -1,0 +1,182 @@
+//! The statements in which no statement stands.
+
+ghost use Rattle.std.specs.Prelude.{◌≡◌};
+ghost use Rattle.mpl_trees.specs.Expressions.{take_expression};
+ghost use Rattle.mpl_trees.specs.Flows.{take_flow};
+ghost use Rattle.mpl_trees.specs.Statements as spec;
+ghost use Rattle.mpl_trees.specs.Taking as taking;
+ghost use Rattle.mpl_expressions.specs.Reader.{Skipped, Took, rest_of};
+ghost use Rattle.mpl_parse.specs.Internal.Forms.{creation, take_assign, take_call_alone, take_create_statement, take_empty, take_value_if_any};
+
+use crate::flow::{assignment, begins_call, call, called, flow};
+use crate::local::local;
+use mpl_ast::expression::{Expression, Target};
+use mpl_ast::flow::Flow;
+use mpl_ast::statement::Statement;
+use mpl_ast::token::{Keyword, Mark, Token};
+use mpl_expressions::ahead::{past_field, second, sees_keyword, sees_mark, sees_name};
+use mpl_expressions::{Reader, Stop, expression, expressions};
+use sqlite_items::Items;
+use std::alloc::Global;
+
+/// An expression in parentheses.
+pub fn test(alloc: Global, reader: &mut Reader<'_>, depth: usize) -> Result<Expression, Stop>
+    ensures { Took (spec.take_test depth) (rest_of reader.old) result (rest_of reader.new) }
+{
+    reader.mark(Mark::OpenParenthesis)?;
+    let test = expression(alloc, reader, depth)?;
+    reader.mark(Mark::CloseParenthesis)?;
+    Ok(test)
+}
+
+/// `.create` stands behind a variable or a field.
+fn begins_create(tokens: &[Token]) -> bool
+    ensures { result ≡ spec.begins_create tokens.now }
+{
+    let behind = past_field(tokens);
+    sees_mark(second(tokens), Mark::Dot)
+        && (sees_keyword(second(second(tokens)), Keyword::Create)
+            || (sees_mark(behind, Mark::Dot) && sees_keyword(second(behind), Keyword::Create)))
+}
+
+/// A statement that begins with a name.
+pub fn named(alloc: Global, reader: &mut Reader<'_>, depth: usize) -> Result<Statement, Stop>
+    ensures { Took (spec.named_statement depth) (rest_of reader.old) result (rest_of reader.new) }
+{
+    if sees_name(second(reader.left)) {
+        declared(alloc, reader, depth)
+    } else if begins_create(reader.left) {
+        created(alloc, reader)
+    } else if begins_call(reader.left) {
+        call_alone(alloc, reader, depth)
+    } else {
+        assigned(alloc, reader, depth)
+    }
+}
+
+pub fn declared(alloc: Global, reader: &mut Reader<'_>, depth: usize) -> Result<Statement, Stop>
+    ensures { Took (spec.declared_statement depth) (rest_of reader.old) result (rest_of reader.new) }
+{
+    let start = reader.start()?;
+    let variables = local(alloc, reader, depth)?;
+    reader.mark(Mark::Semicolon)?;
+    Ok(Statement::Declare(reader.finish(start), variables))
+}
+
+fn created(alloc: Global, reader: &mut Reader<'_>) -> Result<Statement, Stop>
+    ensures { Took take_create_statement (rest_of reader.old) result (rest_of reader.new) }
+{
+    let start = reader.start()?;
+    let target = create(alloc, reader)?;
+    Ok(Statement::Create(reader.finish(start), target))
+}
+
+/// The target of a creation, and the rest of it.
+fn create(alloc: Global, reader: &mut Reader<'_>) -> Result<Target, Stop>
+    ensures { Took spec.take_create (rest_of reader.old) result (rest_of reader.new) }
+{
+    let target = called(alloc, reader)?;
+    creation(reader)?;
+    Ok(target)
+}
+
+/// What stands behind the target of a creation.
+fn creation(reader: &mut Reader<'_>) -> Result<(), Stop>
+    ensures { Skipped creation (rest_of reader.old) result (rest_of reader.new) }
+{
+    reader.mark(Mark::Dot)?;
+    reader.keyword(Keyword::Create)?;
+    reader.mark(Mark::OpenParenthesis)?;
+    reader.mark(Mark::CloseParenthesis)?;
+    reader.mark(Mark::Semicolon)
+}
+
+pub fn call_alone(alloc: Global, reader: &mut Reader<'_>, depth: usize) -> Result<Statement, Stop>
+    ensures { Took (take_call_alone depth) (rest_of reader.old) result (rest_of reader.new) }
+{
+    let start = reader.start()?;
+    let call = call(alloc, reader, depth)?;
+    reader.mark(Mark::Semicolon)?;
+    Ok(Statement::CallAlone(reader.finish(start), call))
+}
+
+fn assigned(alloc: Global, reader: &mut Reader<'_>, depth: usize) -> Result<Statement, Stop>
+    ensures { Took (take_assign depth) (rest_of reader.old) result (rest_of reader.new) }
+{
+    let start = reader.start()?;
+    let assignment = assignment(alloc, reader, depth)?;
+    reader.mark(Mark::Semicolon)?;
+    Ok(Statement::Assign(reader.finish(start), assignment))
+}
+
+pub fn empty(reader: &mut Reader<'_>) -> Result<Statement, Stop>
+    ensures { Took take_empty (rest_of reader.old) result (rest_of reader.new) }
+{
+    let start = reader.start()?;
+    reader.mark(Mark::Semicolon)?;
+    Ok(Statement::Empty(reader.finish(start)))
+}
+
+pub fn print(alloc: Global, reader: &mut Reader<'_>, depth: usize) -> Result<Statement, Stop>
+    ensures { Took (spec.take_print depth) (rest_of reader.old) result (rest_of reader.new) }
+{
+    let start = reader.start()?;
+    reader.keyword(Keyword::Print)?;
+    let values = printed(alloc, reader, depth)?;
+    reader.mark(Mark::Semicolon)?;
+    Ok(Statement::Print(reader.finish(start), values))
+}
+
+/// Expressions in parentheses.
+fn printed(alloc: Global, reader: &mut Reader<'_>, depth: usize) -> Result<Items<Expression>, Stop>
+    ensures { Took (taking.parenthesized (taking.some_of (take_expression depth))) (rest_of reader.old) result (rest_of reader.new) }
+{
+    reader.mark(Mark::OpenParenthesis)?;
+    let values = expressions(alloc, reader, depth)?;
+    reader.mark(Mark::CloseParenthesis)?;
+    Ok(values)
+}
+
+pub fn rtf(alloc: Global, reader: &mut Reader<'_>, depth: usize) -> Result<Statement, Stop>
+    ensures { Took (spec.take_rtf depth) (rest_of reader.old) result (rest_of reader.new) }
+{
+    let start = reader.start()?;
+    reader.keyword(Keyword::Rtf)?;
+    let value = passed(alloc, reader, depth)?;
+    reader.mark(Mark::Semicolon)?;
+    Ok(Statement::Rtf(reader.finish(start), value))
+}
+
+/// A flow in parentheses.
+fn passed(alloc: Global, reader: &mut Reader<'_>, depth: usize) -> Result<Flow, Stop>
+    ensures { Took (taking.parenthesized (take_flow depth)) (rest_of reader.old) result (rest_of reader.new) }
+{
+    reader.mark(Mark::OpenParenthesis)?;
+    let value = flow(alloc, reader, depth)?;
+    reader.mark(Mark::CloseParenthesis)?;
+    Ok(value)
+}
+
+pub fn returned(alloc: Global, reader: &mut Reader<'_>, depth: usize) -> Result<Statement, Stop>
+    ensures { Took (spec.take_return depth) (rest_of reader.old) result (rest_of reader.new) }
+{
+    let start = reader.start()?;
+    reader.keyword(Keyword::Return)?;
+    let value = value_if_any(alloc, reader, depth)?;
+    reader.mark(Mark::Semicolon)?;
+    Ok(Statement::Return(reader.finish(start), value))
+}
+
+fn value_if_any(
+    alloc: Global,
+    reader: &mut Reader<'_>,
+    depth: usize,
+) -> Result<Option<Expression>, Stop>
+    ensures { Took (take_value_if_any depth) (rest_of reader.old) result (rest_of reader.new) }
+{
+    if sees_mark(reader.left, Mark::Semicolon) {
+        return Ok(None);
+    }
+    let value = expression(alloc, reader, depth)?;
+    Ok(Some(value))
+}
