@@ -1,0 +1,2 @@
+mod Declarations
+mod Lists
