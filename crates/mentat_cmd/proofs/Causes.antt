@@ -6,7 +6,6 @@ use Rattle.mpl_ast.specs.declared.token.Token.{Token}
 use Rattle.mpl_value.specs.declared.body.BodyEnd.{BodyEnd}
 use Rattle.mpl_value.specs.declared.body.BodyEnd.TheVariants as end
 use Rattle.mpl_value.specs.declared.body.Yield.{Yield}
-use Rattle.mpl_mean.specs.FirstForms.FirstForm.{is_first_form}
 use Rattle.mpl_mean.specs.Limits.{most_source_bytes, usual_budget}
 use Rattle.mpl_mean.specs.Meaning.DirectRun.{direct_run}
 use Rattle.mpl_mean.specs.Text.Lexemes.{LexicalFault, BadByte, OpenComment, WideNumber, tokens_of}
@@ -21,7 +20,7 @@ use Rattle.mentat_cmd.specs.declared.status.Status.{Status}
 use Rattle.mentat_cmd.specs.declared.status.Status.TheVariants as status
 
 abbrev pub OneTree : Type 0
-OneTree = (p q : Program) (tokens : List Token) → is_first_form p ≡ true → is_first_form q ≡ true → spells p tokens ≡ true → spells q tokens ≡ true → p ≡ q
+OneTree = (p q : Program) (tokens : List Token) → spells p tokens ≡ true → spells q tokens ≡ true → p ≡ q
 
 -- of tokens there is at most one fault
 pub record OneFault : Type 0 where
@@ -48,7 +47,7 @@ some_same r x y e f = cc
 pub one_program : OneTree → (source : List ℕ) (p q : Program) → IsBuilt source p → IsBuilt source q → p ≡ q
 one_program one_tree source p q b c =
     let same : b.accepted.tokens ≡ c.accepted.tokens = ok_same (tokens_of source) b.accepted.tokens c.accepted.tokens b.accepted.lexed c.accepted.lexed in
-    one_tree p q c.accepted.tokens b.first c.first (subst (λ (ts : List Token). spells p ts ≡ true) same b.accepted.spelled) c.accepted.spelled
+    one_tree p q c.accepted.tokens (subst (λ (ts : List Token). spells p ts ≡ true) same b.accepted.spelled) c.accepted.spelled
 
 one_run : OneTree → (source : List ℕ) (y z : Yield) → Runs source y → Runs source z → y ≡ z
 one_run one_tree source y z r s =

@@ -8,8 +8,6 @@ use Rattle.mpl_mean.specs.Limits.{usual_budget}
 use Rattle.mpl_mean.specs.Meaning.DirectRun.{direct_run}
 use Rattle.mpl_mean.specs.Text.Lexemes.{BadByte, OpenComment, WideNumber, tokens_of}
 use Rattle.mpl_mean.specs.Text.ParseFaults.{HasLightProgram, IsSyntaxFault, IsTooDeep}
-use Rattle.mpl_grammar.specs.declared.faults.Fault.{Fault}
-use Rattle.mpl_grammar.specs.declared.faults.Fault.TheVariants as fault
 use Rattle.mpl_value.specs.declared.body.Yield.{Yield}
 use Rattle.mentat_cmd.specs.declared.run.Rejection.{Rejection}
 use Rattle.mentat_cmd.specs.declared.run.Rejection.TheVariants as rejection
@@ -62,8 +60,3 @@ Ran source (Ok y) = Runs source y
 Ran source (Err (rejection.Refused refusal)) = IsRefused source refusal
 Ran source (Err rejection.Unbuilt) = IsUnbuilt source
 Ran source (Err rejection.NoMemory) = Unit {0}
-
--- a fault of tokens, as a refusal of their source
-abbrev pub refused : Fault → Refusal
-refused (fault.Syntax at) = refusal.Syntax at
-refused (fault.TooDeep at) = refusal.TooDeep at

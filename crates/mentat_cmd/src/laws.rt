@@ -4,13 +4,13 @@ ghost use Rattle.mentat_cmd.specs.Answer.{IsCause, IsExact};
 ghost use Rattle.mentat_cmd.specs.declared.status.Status.{Status};
 
 use mpl_grammar::faults_exclude_one_another;
-use mpl_mean::tokens_have_one_tree;
+use mpl_trees::tokens_have_one_program;
 
 /// Of the answers that come exactly where their cause holds, no two have a cause in one file.
 pub fn causes_exclude_one_another()
     ensures { (files : Files) (name : List ℕ) (s t : Status) (m n : ℕ) →
         IsExact s → IsExact t → IsCause files name s m → IsCause files name t n → (s ≡ t) × (m ≡ n) }
 {
-    tokens_have_one_tree();
+    tokens_have_one_program();
     faults_exclude_one_another();
 }

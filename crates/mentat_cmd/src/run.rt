@@ -1,17 +1,20 @@
-ghost use Rattle.std.specs.Prelude.{◌≡◌, ◌+◌, ◌≤◌, [], length, Ok, Err, IfOk, IfErr};
-ghost use Rattle.mpl_mean.specs.Limits.{most_source_bytes, usual_budget};
+ghost use Rattle.std.specs.Prelude.{◌≡◌, ◌+◌, ◌≤◌, [], length, true, List, ℕ, Ok, Err, IfOk, IfErr};
+ghost use Rattle.mpl_mean.specs.Limits.{most_source_bytes, most_tokens, usual_budget};
 ghost use Rattle.mpl_mean.specs.Meaning.DirectRun.{main_start};
 ghost use Rattle.mpl_mean.specs.Text.Lexemes.{tokens_of};
+ghost use Rattle.mpl_mean.specs.Text.ProgramText.{spells};
+ghost use Rattle.mpl_mean.specs.Text.Weight.{is_light};
 ghost use Rattle.mpl_value.specs.declared.body.BodyEnd.TheVariants.{Spent};
-ghost use Rattle.mentat_cmd.specs.Program as spec;
 ghost use Rattle.mentat_cmd.specs.Program.{Ran};
 
 use crate::status::Refusal;
+use mpl_ast::program::Program;
 use mpl_ast::token::Tokens;
-use mpl_grammar::{Fault, first_fault};
+use mpl_first_form::is_first_form;
 use mpl_lexer::{LexFault, lex};
-use mpl_mean::{Typed, tokens_are_few, tokens_have_one_tree};
+use mpl_mean::{Typed, tokens_are_few};
 use mpl_parse::{ParseFault, parse};
+use mpl_trees::tokens_have_one_program;
 use mpl_types::is_typed;
 use mpl_value::{BodyStart, NoMemory, Replies, Words, Yield};
 use mpl_walk::walk;
@@ -48,15 +51,11 @@ pub fn run(alloc: Global, source: &[u8]) -> Result<Yield, Rejection>
 {
     let tokens = tokens_of(alloc, source)?;
     tokens_are_few();
-    if let Some(fault) = first_fault(alloc, &tokens)? {
-        return Err(Rejection::Refused(refused(fault)));
+    let program = program_of(alloc, &tokens)?;
+    tokens_have_one_program();
+    if !is_first_form(&program) {
+        return Err(Rejection::Unbuilt);
     }
-    let program = match parse(alloc, &tokens) {
-        Ok(program) => program,
-        Err(ParseFault::NoMemory) => return Err(Rejection::NoMemory),
-        Err(ParseFault::Unfit) => return Err(Rejection::Unbuilt),
-    };
-    tokens_have_one_tree();
     if !is_typed(alloc, &program)? {
         return Err(Rejection::Unbuilt);
     }
@@ -84,12 +83,18 @@ fn tokens_of(alloc: Global, source: &[u8]) -> Result<Tokens, Rejection>
     }
 }
 
-fn refused(fault: Fault) -> Refusal
-    ensures { result ≡ spec.refused fault }
+// The program that tokens are, or their first fault.
+fn program_of(alloc: Global, tokens: &Tokens) -> Result<Program, Rejection>
+    requires { length tokens.now.list ≤ most_tokens }
+    ensures text { IfOk result (λ p. spells p tokens.now.list ≡ true) }
+    ensures light { IfOk result (λ p. is_light p ≡ true) }
+    ensures fault { IfErr result (λ e. (source : List ℕ) → tokens_of source ≡ Ok tokens.now.list → tokens.now.end ≡ length source → Ran source (Err e)) }
 {
-    match fault {
-        Fault::Syntax(at) => Refusal::Syntax(at),
-        Fault::TooDeep(at) => Refusal::TooDeep(at),
+    match parse(alloc, tokens) {
+        Ok(program) => Ok(program),
+        Err(ParseFault::Syntax(at)) => Err(Rejection::Refused(Refusal::Syntax(at))),
+        Err(ParseFault::TooDeep(at)) => Err(Rejection::Refused(Refusal::TooDeep(at))),
+        Err(ParseFault::NoMemory) => Err(Rejection::NoMemory),
     }
 }
 
