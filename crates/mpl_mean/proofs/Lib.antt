@@ -12,4 +12,5 @@ mod InPlace
 pub mod Truth
 pub mod Lists
 pub mod ExpressionInduction
+pub mod PlainTrees
 mod NeverWaits

@@ -12,3 +12,4 @@ pub mod Running
 pub mod Starting
 pub mod Steps
 pub mod Values
+pub mod BodyCode
