@@ -12,5 +12,4 @@ mod InPlace
 pub mod Truth
 pub mod Lists
 pub mod ExpressionInduction
-pub mod PlainTrees
 mod NeverWaits

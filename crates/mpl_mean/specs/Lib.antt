@@ -3,7 +3,6 @@ pub mod Levels
 pub mod Text
 pub mod TypeRules
 pub mod Meaning
-pub mod PlainTrees
 pub mod Laws
 pub mod FirstForms
 pub mod SmallPrograms

@@ -1,21 +1,10 @@
 ghost use Rattle.std.specs.Prelude.{◌≡◌, ◌≢◌, ◌<◌, ◌≤◌, ◌↔◌, ℕ, ◌+◌, ◌-◌, List, [], ℤ, length, true, Ok, Some, None};
 ghost use Rattle.std.specs.FinMap.{FinMap, empty};
 ghost use Rattle.std.specs.Ordering.{nat_cmp};
-ghost use Rattle.mpl_ast.specs.declared.expression.Expression.{Expression};
-ghost use Rattle.mpl_ast.specs.declared.flow.Call.{Call};
-ghost use Rattle.mpl_ast.specs.declared.flow.Flow.{Flow};
 ghost use Rattle.mpl_ast.specs.declared.program.Program.{Program};
-ghost use Rattle.mpl_ast.specs.declared.statement.Statement.{Statement};
 ghost use Rattle.mpl_ast.specs.declared.token.Token.{Token};
 ghost use Rattle.mpl_mean.specs.Laws.Allowance.{AtSharedPlaces};
-ghost use Rattle.mpl_mean.specs.Meaning.BodyMeaning.{callees_at, run, yield_of};
-ghost use Rattle.mpl_mean.specs.Meaning.CallMeaning.{call_value, passes, whole_name};
-ghost use Rattle.mpl_mean.specs.Meaning.Context.{Context};
-ghost use Rattle.mpl_mean.specs.Meaning.ExpressionMeaning.{value_of};
-ghost use Rattle.mpl_mean.specs.Meaning.StatementMeaning.{does};
-ghost use Rattle.mpl_mean.specs.PlainTrees.ExpressionTrees.{expression_tree, tree_name, tree_value};
-ghost use Rattle.mpl_mean.specs.PlainTrees.FlowTrees.{call_tree, flow_tree, tree_passes};
-ghost use Rattle.mpl_mean.specs.PlainTrees.StatementTrees.{statement_tree, statement_trees, tree_does, trees_run};
+ghost use Rattle.mpl_mean.specs.Meaning.BodyMeaning.{callees_at, yield_of};
 ghost use Rattle.mpl_mean.specs.Meaning.DirectRun.{direct_run};
 ghost use Rattle.mpl_mean.specs.FirstForms.FirstForm.{is_first_form};
 ghost use Rattle.mpl_mean.specs.Laws.InPlace.{ArgumentsHaveWords, IsRegular, goes_on_with, start_alone};
@@ -92,15 +81,4 @@ pub fn only_replies_are_awaited()
     ensures silent { (p : Program) (start : BodyStart) (replies : FinMap nat_cmp Known) (n : ℕ) → is_typed p ≡ true → StartFits p start → (CanCall p.declarations start.member → ⊥) → (yield_of p start replies n).calls ≡ [] }
     ensures never { (p : Program) (start : BodyStart) (replies : FinMap nat_cmp Known) (n : ℕ) → is_typed p ≡ true → StartFits p start → (CanCall p.declarations start.member → ⊥) → (yield_of p start replies n).end ≢ end.Waits }
     ensures direct { (p : Program) (input : List ℤ) (n : ℕ) → is_typed p ≡ true → (HasPersistent p.declarations → ⊥) → (direct_run p input n).end ≢ end.Waits }
-{}
-
-/// An expression, a flow, a call, a statement and the statements of a body mean what the plain trees mean that are made
-/// of them.
-pub fn plain_trees_mean_the_same()
-    ensures values { (e : Expression) → value_of e ≡ tree_value (expression_tree e) }
-    ensures names { (e : Expression) → whole_name e ≡ tree_name (expression_tree e) }
-    ensures flows { (f : Flow) → passes f ≡ tree_passes (flow_tree f) }
-    ensures calls { (call : Call) → call_value call ≡ tree_passes (call_tree call) }
-    ensures statements { (s : Statement) (context : Context) → does s context ≡ tree_does (statement_tree s) context }
-    ensures bodies { (context : Context) (statements : List Statement) → run context statements ≡ trees_run context (statement_trees statements) }
 {}

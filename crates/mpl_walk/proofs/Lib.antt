@@ -12,4 +12,3 @@ pub mod Running
 pub mod Starting
 pub mod Steps
 pub mod Values
-pub mod BodyCode
