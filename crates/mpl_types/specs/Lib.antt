@@ -1,3 +1,1 @@
-pub mod Checkable
-pub mod Checked
 pub mod Internal

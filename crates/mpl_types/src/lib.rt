@@ -1,19 +1,12 @@
-//! The type rules: the least failure in a program, or none.
+//! The type rules of the programs of the first form.
 #![tactic(auto)]
 
-mod arguments;
 mod bodies;
 mod calls;
-mod classes;
-mod declarations;
-mod expressions;
-mod failure;
-mod fault;
-mod fields;
-mod outlines;
-mod places;
-mod programs;
-mod statements;
+mod check;
+mod lookup;
+mod outline;
+mod scope;
+mod uses;
 
-pub use fault::TypeFault;
-pub use programs::{check, is_typed};
+pub use check::is_typed;

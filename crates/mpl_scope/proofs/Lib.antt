@@ -1,4 +1,0 @@
-pub mod FirstLemmas
-pub mod ListLemmas
-pub mod TableLemmas
-pub mod WordLemmas
