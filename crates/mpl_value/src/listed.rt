@@ -65,4 +65,9 @@ impl<T: Drop> Listed<T> {
     {
         self.items.as_slice()
     }
+
+    /// What gives the list its memory.
+    pub fn allocator(&self) -> Global {
+        *self.items.allocator()
+    }
 }

@@ -1,0 +1,14 @@
+pub mod Images
+pub mod Frames
+pub mod Stacks
+pub mod Parts
+pub mod Steps
+pub mod Yields
+pub mod Sizes
+pub mod Guards
+pub mod Alone
+pub mod Told
+pub mod Listing
+pub mod Marks
+pub mod SmallCode
+pub mod SmallBodies
