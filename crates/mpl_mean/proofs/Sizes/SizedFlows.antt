@@ -64,7 +64,7 @@ call_has : (W : Type 0) (ds : List Declaration) (n : Option Member) (m k : Membe
 call_has W ds n m k a e c h = subst (λ n. CallHas W ds n a) (sym e) (subst (λ r. ArgIn W (words_of_result ds r) a) c.result h, subst (λ r. WellResult ds r) c.result c.typed)
 
 -- an expression is no call of a member
-no_call : {v : Evaluates} {p : Expr} {m : MayName} (h : Environment) → Means v p m → statement_call_nodes h p ≡ expr_nodes h p
+pub no_call : {v : Evaluates} {p : Expr} {m : MayName} (h : Environment) → Means v p m → statement_call_nodes h p ≡ expr_nodes h p
 no_call h (number at z) = refl
 no_call h (truth at b) = refl
 no_call h (own at) = refl

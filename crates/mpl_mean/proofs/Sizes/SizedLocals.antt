@@ -61,7 +61,7 @@ first_new name d (c ∷ block) others formals state h =
       chosen false b i j k = k ∙ ap (λ b. if b then Some d else first_named name (((block ++ others) ++ formals) ++ state)) j
 
 -- a variable in the store for what is declared
-abbrev Variables : Declared → Variable → Type 0
+abbrev pub Variables : Declared → Variable → Type 0
 Variables d v = (v.name ≡ d.name) × (v.type ≡ d.type) × (v.dimension ≡ dimension_of d.dimension)
 
 place_more : (ds : List Declaration) (total : ℕ) (name : List ℕ) (d : Declared) (v : Variable) (o : Option Declared) (u : Option Variable) (part : Option layout.Part) → Variables d v → WellDeclared ds d
@@ -73,7 +73,7 @@ place_more ds total name d v o u part h w p =
       chosen false = p
 
 -- a local behind its declarator
-matches_more : (G : Frame) (S : Setting) (blocks : List (List Declared)) (vs : List Variable) (d : Declared) (v : Variable) → Variables d v → WellDeclared G.declarations d
+pub matches_more : (G : Frame) (S : Setting) (blocks : List (List Declared)) (vs : List Variable) (d : Declared) (v : Variable) → Variables d v → WellDeclared G.declarations d
     → list_any (bytes_eq d.name) (locals_beside blocks S.formals) ≡ false → Matches G S blocks vs → Matches G S (with_last d blocks) (v ∷ vs)
 matches_more G S [] vs d v h w n m = λ name.
     place_more G.declarations G.state_words name d v (variable_of (environment G S []) name) (variable_named name vs) (part_named name S.context.state) h w (m name)
@@ -92,7 +92,7 @@ matches_more G S (block ∷ outer ∷ others) vs d v h w n m = λ name.
 
 -- ---- what is declared
 
-local_shape : (dimension : Option Dimension) (m : Meant) → is_meant m ≡ true → is_some (shape_of_meant AsLocal dimension m) ≡ true
+pub local_shape : (dimension : Option Dimension) (m : Meant) → is_meant m ≡ true → is_some (shape_of_meant AsLocal dimension m) ≡ true
 local_shape dimension AnInt h = refl
 local_shape dimension ABool h = refl
 local_shape dimension (AStruct n fields) h = refl
@@ -106,7 +106,7 @@ one_of ds name t (Some (OneValue v)) e h = refl
 one_of ds name t (Some (AnArray v)) e h = absurd (let d = (array_of_shape AsLocal None (meant ds t) v e).0.1 in cc)
 one_of ds name t (Some (ARegular items)) e h = absurd cc
 
-dimension_element : (G : Frame) (S : Setting) (blocks : List (List Declared)) (t : TypeName) (dimension : Option Dimension) → AllRight (dimension_nodes (environment G S blocks) t dimension) → IsElement dimension t
+pub dimension_element : (G : Frame) (S : Setting) (blocks : List (List Declared)) (t : TypeName) (dimension : Option Dimension) → AllRight (dimension_nodes (environment G S blocks) t dimension) → IsElement dimension t
 dimension_element G S blocks t None r = tt
 dimension_element G S blocks t (Some dimension) r = (both_true (is_size (layout.natural dimension.number.value)) (is_element t) r.0.dimension).1
 

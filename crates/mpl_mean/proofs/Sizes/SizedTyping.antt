@@ -67,7 +67,7 @@ every_named Q name (c ∷ ds) d h e = chosen (bytes_eq c.name name) e (every_nam
   chosen true e k = subst Q (some_declared e) h.0
   chosen false e k = k e
 
-place_well : (ds : List Declaration) (total : ℕ) (d : Declared) (v : Option Variable) (part : Option Part) → PlaceFits ds total (Some d) v part → WellDeclared ds d
+pub place_well : (ds : List Declaration) (total : ℕ) (d : Declared) (v : Option Variable) (part : Option Part) → PlaceFits ds total (Some d) v part → WellDeclared ds d
 place_well ds total d (Some v) part h = h.2
 place_well ds total d None None h = absurd h
 place_well ds total d None (Some part) h = h.well
