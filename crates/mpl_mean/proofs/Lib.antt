@@ -7,7 +7,8 @@ pub mod MoreTurns
 pub mod MoreReplies
 pub mod Sizes
 pub mod SmallPrograms
-mod Allowance
+pub mod Allowance
+pub mod Numbers
 mod InPlace
 pub mod Truth
 pub mod Lists

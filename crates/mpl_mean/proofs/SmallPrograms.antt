@@ -1,6 +1,7 @@
 -- Small programs, computed.
 pub mod OpenTrees
 pub mod OpenedBodies
+pub mod OpenedReplies
 pub mod OpenedExpressions
 pub mod OpenedStatements
 pub mod WorkedRun

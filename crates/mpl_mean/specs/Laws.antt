@@ -3,3 +3,4 @@ pub mod Allowance
 pub mod Sizes
 pub mod InPlace
 pub mod Waiting
+pub mod Numbers

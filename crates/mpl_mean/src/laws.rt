@@ -13,6 +13,7 @@ ghost use Rattle.mpl_mean.specs.Text.Lexemes.{tokens_of};
 ghost use Rattle.mpl_value.specs.Growing.{AreAmong, CallStays, Grows};
 ghost use Rattle.mpl_mean.specs.Text.ProgramText.{spells};
 ghost use Rattle.mpl_mean.specs.TypeRules.Rules.{Failure, fails, failures, first_failures, is_typed, least_failure, IsNotBehind};
+ghost use Rattle.mpl_mean.specs.Laws.Numbers.{NumberedFrom};
 ghost use Rattle.mpl_mean.specs.Laws.Sizes.{Every, RepliesFit, Sized, StartFits};
 ghost use Rattle.mpl_mean.specs.Meaning.Store.{Store};
 ghost use Rattle.mpl_mean.specs.Laws.Waiting.{CanCall, HasPersistent, HasReply};
@@ -51,13 +52,20 @@ pub fn more_replies_only_add()
 
 /// A body that isn't spent has taken no more turns than its allowance, and one that is has taken one more. With more
 /// replies, and no smaller allowance, it would take more turns than it had: so what is spent stays spent with more
-/// replies. Of the calls that both runs make each stays, also where one of them is spent.
+/// replies. Of the calls that both runs make, and of the objects that both create, each stays, also where one of them is
+/// spent.
 pub fn allowances_are_exact()
     ensures within { (p : Program) (start : BodyStart) (replies : FinMap nat_cmp Known) (n : ℕ) → (yield_of p start replies n).end ≢ end.Spent → (yield_of p start replies n).turns ≤ n }
     ensures spent { (p : Program) (start : BodyStart) (replies : FinMap nat_cmp Known) (n : ℕ) → (yield_of p start replies n).end ≡ end.Spent → (yield_of p start replies n).turns ≡ n + 1 }
     ensures beyond { (p : Program) (start : BodyStart) (replies more : FinMap nat_cmp Known) (n m : ℕ) → AreAmong replies more → n ≤ m → (yield_of p start replies n).end ≡ end.Spent → n < (yield_of p start more m).turns }
     ensures stays_spent { (p : Program) (start : BodyStart) (replies more : FinMap nat_cmp Known) (n : ℕ) → AreAmong replies more → (yield_of p start replies n).end ≡ end.Spent → (yield_of p start more n).end ≡ end.Spent }
     ensures calls { (p : Program) (start : BodyStart) (replies more : FinMap nat_cmp Known) (n m : ℕ) → AreAmong replies more → n ≤ m → AtSharedPlaces CallStays (yield_of p start replies n).calls (yield_of p start more m).calls }
+    ensures creations { (p : Program) (start : BodyStart) (replies more : FinMap nat_cmp Known) (n m : ℕ) → AreAmong replies more → n ≤ m → AtSharedPlaces (λ class other. class ≡ other) (yield_of p start replies n).creations (yield_of p start more m).creations }
+{}
+
+/// The calls of a body are numbered from 1, in the order in which they are made.
+pub fn calls_are_numbered()
+    ensures { (p : Program) (start : BodyStart) (replies : FinMap nat_cmp Known) (n : ℕ) → NumberedFrom 1 (yield_of p start replies n).calls }
 {}
 
 /// A regular member that is called in place is its body alone, with the turns that are left: what the caller gets of it,

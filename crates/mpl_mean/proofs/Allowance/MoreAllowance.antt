@@ -1,6 +1,6 @@
 -- With more replies and no fewer turns a body that is spent takes more turns than its first allowance, and the calls that
 -- both runs make are the same but for what was not known.
-use Rattle.std.proofs.Common.{◌≡◌, ℕ, ◌<◌, ◌≤◌, Bool, true, false, List, [], ◌∷◌, Option, Some, None, ◌⊎◌, inl, inr, refl, sym, subst, ◌∙◌, arith, le_refl}
+use Rattle.std.proofs.Common.{◌≡◌, ℕ, ◌<◌, ◌≤◌, Bool, true, false, List, [], ◌∷◌, Option, Some, None, ◌⊎◌, inl, inr, ℤ, refl, sym, ap, subst, ◌∙◌, arith, le_refl}
 use Rattle.std.specs.FinMap.{FinMap}
 use Rattle.std.specs.List.{AllZip}
 use Rattle.std.specs.Ordering.{nat_cmp}
@@ -16,12 +16,12 @@ use Rattle.mpl_mean.specs.Meaning.BodyMeaning.{callees_at, body_of, context_with
 use Rattle.mpl_mean.specs.Meaning.Context.{Context}
 use Rattle.mpl_mean.specs.Meaning.Layout.{Class, Member, classes_of}
 use Rattle.mpl_value.specs.Growing.{AreAmong, Begins, CallStays}
-use Rattle.mpl_mean.specs.Meaning.Store.{Outcome, Ends}
+use Rattle.mpl_mean.specs.Meaning.Store.{Outcome, Ends, Store}
 use Rattle.mpl_mean.proofs.Allowance.ExactYields.{turns_spent, turns_within}
 use Rattle.mpl_mean.proofs.Allowance.Tells.{Tells, main_tells, member_tells, spent_is, is_not_spent, is_spent_so}
 use Rattle.mpl_mean.proofs.MoreReplies.Follows.{Follows, goes, returns, ends, waited, first_spent, second_spent, store_after}
 use Rattle.mpl_mean.proofs.Simulations.KeptStatements.{run_kept}
-use Rattle.mpl_mean.proofs.MoreReplies.Later.{Later-itself, Beside-itself}
+use Rattle.mpl_mean.proofs.MoreReplies.Later.{Beside, Later-itself, Beside-itself}
 use Rattle.mpl_mean.proofs.MoreReplies.RepliesOnlyAdd.{by_replies, callees_beside}
 use Rattle.mpl_mean.proofs.Simulations.Simulation.{Same}
 use Rattle.mpl_mean.proofs.Simulations.UnlessSpent.{is_spent, is_spent_end}
@@ -51,7 +51,33 @@ shared_calls V o p (returns {s = s} {t = t} e) = shared_zip CallStays s.calls t.
 shared_calls V o p (ends {s = s} {t = t} e) = shared_zip CallStays s.calls t.calls e.calls
 shared_calls V o p (waited {s = s} {p = p'} l) = shared_begins CallStays s.calls (store_after p').calls l.calls
 shared_calls V o p (first_spent {s = s} {p = p'} l) = shared_begins CallStays s.calls (store_after p').calls l.calls
-shared_calls V o p (second_spent {o = o'} {t = t} i) = shared_back CallStays (store_after o').calls t.calls i
+shared_calls V o p (second_spent {o = o'} {t = t} i) = shared_back CallStays (store_after o').calls t.calls i.0
+
+abbrev SameClass : ℤ → ℤ → Type 0
+SameClass a b = a ≡ b
+
+shared_same : (xs ys : List ℤ) → xs ≡ ys → AtSharedPlaces SameClass xs ys
+shared_same xs ys e = subst (λ ys. AtSharedPlaces SameClass xs ys) e (itself xs) where
+  itself : (xs : List ℤ) → AtSharedPlaces SameClass xs xs
+  itself [] = tt
+  itself (x ∷ xs) = (refl, itself xs)
+
+shared_turned : (xs ys : List ℤ) → AtSharedPlaces SameClass xs ys → AtSharedPlaces SameClass ys xs
+shared_turned [] [] h = tt
+shared_turned [] (y ∷ ys) h = tt
+shared_turned (x ∷ xs) [] h = tt
+shared_turned (x ∷ xs) (y ∷ ys) h = (sym h.0, shared_turned xs ys h.1)
+
+beside_creations : (s t : Store) → Beside s t → AtSharedPlaces SameClass s.creations t.creations
+beside_creations s t e = shared_same s.creations t.creations (ap (λ (u : Store). u.creations) e.same)
+
+shared_creations : {A : Type 0} (V : A → A → Type 0) (o p : Outcome A) → Follows V o p → AtSharedPlaces SameClass (store_after o).creations (store_after p).creations
+shared_creations V o p (goes {s = s} {t = t} v e) = beside_creations s t e
+shared_creations V o p (returns {s = s} {t = t} e) = beside_creations s t e
+shared_creations V o p (ends {s = s} {t = t} e) = beside_creations s t e
+shared_creations V o p (waited {s = s} {p = p'} l) = shared_begins SameClass s.creations (store_after p').creations l.creations
+shared_creations V o p (first_spent {s = s} {p = p'} l) = shared_begins SameClass s.creations (store_after p').creations l.creations
+shared_creations V o p (second_spent {o = o'} {t = t} i) = shared_turned t.creations (store_after o').creations (shared_begins SameClass t.creations (store_after o').creations i.1)
 
 -- where the first is spent the second has as many turns, or is spent
 abbrev NoFewer : {A : Type 0} → Outcome A → Outcome A → Type 0
@@ -105,6 +131,13 @@ calls_shared p start replies more n m among le =
     let b = bodies_follow p.declarations n m le replies more among start start.member in
     subst (λ xs. AtSharedPlaces CallStays xs (yield_of p start more m).calls) b.tells.calls
     (subst (λ ys. AtSharedPlaces CallStays (store_after b.first).calls ys) b.tells_more.calls (shared_calls Same b.first b.second b.follow))
+
+pub creations_shared : (p : Program) (start : BodyStart) (replies more : FinMap nat_cmp Known) (n m : ℕ) → AreAmong replies more → n ≤ m
+    → AtSharedPlaces (λ class other. class ≡ other) (yield_of p start replies n).creations (yield_of p start more m).creations
+creations_shared p start replies more n m among le =
+    let b = bodies_follow p.declarations n m le replies more among start start.member in
+    subst (λ xs. AtSharedPlaces SameClass xs (yield_of p start more m).creations) b.tells.creations
+    (subst (λ ys. AtSharedPlaces SameClass (store_after b.first).creations ys) b.tells_more.creations (shared_creations Same b.first b.second b.follow))
 
 pub spent_beyond : (p : Program) (start : BodyStart) (replies more : FinMap nat_cmp Known) (n m : ℕ) → AreAmong replies more → n ≤ m
     → (yield_of p start replies n).end ≡ end.Spent → n < (yield_of p start more m).turns

@@ -13,16 +13,17 @@ pub record Tells (o : Outcome (Unit {0})) (y : Yield) : Type 0 where
   pub spent : is_spent o ≡ is_spent_end y.end
   pub turns : (store_after o).turns ≡ y.turns
   pub calls : (store_after o).calls ≡ y.calls
+  pub creations : (store_after o).creations ≡ y.creations
 
 pub main_tells : (o : Outcome (Unit {0})) → Tells o (main_yield o)
-main_tells (Goes value s) = record { spent = refl; turns = refl; calls = refl }
-main_tells (Returns words s) = record { spent = refl; turns = refl; calls = refl }
-main_tells (Ends e s) = record { spent = refl; turns = refl; calls = refl }
+main_tells (Goes value s) = record { spent = refl; turns = refl; calls = refl; creations = refl }
+main_tells (Returns words s) = record { spent = refl; turns = refl; calls = refl; creations = refl }
+main_tells (Ends e s) = record { spent = refl; turns = refl; calls = refl; creations = refl }
 
 pub member_tells : (m : Member) (o : Outcome (Unit {0})) → Tells o (member_yield m o)
-member_tells m (Goes value s) = record { spent = refl; turns = refl; calls = refl }
-member_tells m (Returns words s) = record { spent = refl; turns = refl; calls = refl }
-member_tells m (Ends e s) = record { spent = refl; turns = refl; calls = refl }
+member_tells m (Goes value s) = record { spent = refl; turns = refl; calls = refl; creations = refl }
+member_tells m (Returns words s) = record { spent = refl; turns = refl; calls = refl; creations = refl }
+member_tells m (Ends e s) = record { spent = refl; turns = refl; calls = refl; creations = refl }
 
 -- ---- whether an end is Spent
 

@@ -20,7 +20,7 @@ use Rattle.mpl_mean.specs.Meaning.Store.{Store, Goes, Step, Variable, hold, hold
 use Rattle.mpl_value.specs.Words.{with_words}
 use Rattle.mpl_mean.specs.Meaning.Values.{Value}
 use Rattle.mpl_mean.proofs.Simulations.Simulation.{Same, VariableBeside, MaybeBeside, at_variable, maybe_itself, variable_itself}
-use Rattle.mpl_mean.proofs.MoreReplies.Later.{Later, Later-itself, Adds, Adds-itself, Beside, Begins-append, ResultBeside, CallStays-itself, Stays-itself}
+use Rattle.mpl_mean.proofs.MoreReplies.Later.{Later, Later-itself, Adds, Adds-itself, Beside, Begins-append, Begins-itself, ResultBeside, CallStays-itself, Stays-itself}
 use Rattle.mpl_mean.proofs.MoreReplies.Follows.{Follows, goes, ends, StepFollows, store_after, named_beside}
 
 -- ---- variables and the state
@@ -145,7 +145,7 @@ makes_step object member args others h = record {
   grows = λ t.
       let l = Later-itself t in
       record { result = l.result; lines = l.lines; creations = l.creations; calls = Begins-append CallStays CallStays-itself t.calls _; turns = l.turns };
-  adds = λ s. Begins-append _ (λ x. refl) s.calls _;
+  adds = λ s. (Begins-append _ (λ x. refl) s.calls _, Begins-itself _ (λ x. refl) s.creations);
 }
 
 pub creates_step : (x : Context) (class : Class) → StepFollows ℤ Same (created x class) (created x class)
@@ -160,7 +160,7 @@ creates_step x class = record {
   grows = λ t.
       let l = Later-itself t in
       record { result = l.result; lines = l.lines; creations = Begins-append _ (λ x. refl) t.creations _; calls = l.calls; turns = l.turns };
-  adds = Adds-itself;
+  adds = λ s. (Begins-itself _ (λ x. refl) s.calls, Begins-append _ (λ x. refl) s.creations _);
 }
 
 -- ---- results

@@ -1,5 +1,5 @@
 -- How the store of a run with fewer replies stands to one with more: beside it, or before it.
-use Rattle.std.proofs.Common.{◌≡◌, ◌≤◌, List, [], ◌∷◌, ◌++◌, refl, ap, subst, ◌∙◌, le_refl, le_trans}
+use Rattle.std.proofs.Common.{◌≡◌, ◌≤◌, List, [], ◌∷◌, ◌++◌, refl, ap, subst, ◌∙◌, le_refl, le_trans, sym}
 use Rattle.std.specs.List.{AllZip}
 use Rattle.mpl_value.specs.declared.body.Arg.{Arg}
 use Rattle.mpl_value.specs.declared.body.Arg.TheVariants.{Know, Trapped, Unknown}
@@ -114,24 +114,26 @@ Later-trans s t u h k = record {
   turns = le_trans h.turns k.turns;
 }
 
--- ---- calls of one run
+-- ---- what one run adds
 
--- a run goes on from the first store to the second: it only adds calls
+-- a run goes on from the first store to the second: it only adds calls and creations
 abbrev pub Adds : Store → Store → Type 0
-Adds s t = IsFront s.calls t.calls
+Adds s t = IsFront s.calls t.calls × IsFront s.creations t.creations
 
 pub Adds-itself : (s : Store) → Adds s s
-Adds-itself s = front_of_same s.calls s.calls refl
+Adds-itself s = (front_of_same s.calls s.calls refl, front_of_same s.creations s.creations refl)
 
 pub Adds-trans : (s t u : Store) → Adds s t → Adds t u → Adds s u
-Adds-trans s t u = Begins-front (λ x y. x ≡ y) s.calls t.calls u.calls
+Adds-trans s t u h k =
+    (Begins-front (λ x y. x ≡ y) s.calls t.calls u.calls h.0 k.0, Begins-front (λ x y. x ≡ y) s.creations t.creations u.creations h.1 k.1)
 
--- the first run has made the calls of the second, and maybe more
+-- the first run has made the calls and the creations of the second, and maybe more
 abbrev pub Ahead : Store → Store → Type 0
-Ahead s t = Begins (λ after before. CallStays before after) t.calls s.calls
+Ahead s t = Begins (λ after before. CallStays before after) t.calls s.calls × IsFront t.creations s.creations
 
 pub Ahead-adds : (s u t : Store) → Ahead s t → Adds s u → Ahead u t
-Ahead-adds s u t = Begins-front (λ after before. CallStays before after) t.calls s.calls u.calls
+Ahead-adds s u t h k =
+    (Begins-front (λ after before. CallStays before after) t.calls s.calls u.calls h.0 k.0, Begins-front (λ x y. x ≡ y) t.creations s.creations u.creations h.1 k.1)
 
 -- ---- one store beside another
 
@@ -183,4 +185,4 @@ Beside-later s t h = record {
 }
 
 pub Beside-ahead : (s t : Store) → Beside s t → Ahead s t
-Beside-ahead s t h = zip_back CallStays s.calls t.calls h.calls
+Beside-ahead s t h = (zip_back CallStays s.calls t.calls h.calls, front_of_same t.creations s.creations (sym (ap (λ (u : Store). u.creations) h.same)))

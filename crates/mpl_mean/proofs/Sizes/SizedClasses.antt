@@ -55,7 +55,7 @@ struct_absent name earlier (declaration.Function at result function formals body
 
 -- ---- members
 
-none_above : (k id : ℕ) (items : List Item) → id + length (members_from id items) ≤ k → member_numbered k (members_from id items) ≡ None
+pub none_above : (k id : ℕ) (items : List Item) → id + length (members_from id items) ≤ k → member_numbered k (members_from id items) ≡ None
 none_above k id [] h = refl
 none_above k id (item.OfField at field ∷ items) h = none_above k id items h
 none_above k id (item.Member at result name formals body ∷ items) h = chosen (nat_eq id k) refl (none_above k (id + 1) items (omega arith)) where
@@ -68,7 +68,7 @@ none_above k id (item.Public at ∷ items) h = none_above k id items h
 none_above k id (item.Private at ∷ items) h = none_above k id items h
 none_above k id (item.Empty at ∷ items) h = none_above k id items h
 
-abbrev member_at : ℕ → ResultType → Name → Option Formals → Block → Member
+abbrev pub member_at : ℕ → ResultType → Name → Option Formals → Block → Member
 member_at id result member formals body = record { id = id; name = member.text; result = result; formals = formals_of formals; body = body }
 
 abbrev pub class_declared : ℕ → ℕ → Kind → Name → List Item → Class
@@ -80,10 +80,10 @@ pub record HasNumber (id : ℕ) (items : List Item) (m : Member) : Type 0 where
   pub most : m.id < id + length (members_from id items)
   pub found : member_numbered m.id (members_from id items) ≡ Some m
 
-same_number : (id : ℕ) → nat_eq id id ≡ true
+pub same_number : (id : ℕ) → nat_eq id id ≡ true
 same_number id = grind (arith, nat_tests)
 
-other_number : (id k : ℕ) → id < k → nat_eq id k ≡ false
+pub other_number : (id k : ℕ) → id < k → nat_eq id k ≡ false
 other_number id k h = grind (arith, nat_tests)
 
 pub named_number : (name : List ℕ) (id : ℕ) (items : List Item) (m : Member) → member_named name (members_from id items) ≡ Some m → HasNumber id items m

@@ -22,10 +22,10 @@ use Rattle.mpl_mean.specs.Meaning.Store.{Step, Ends, Goes, Outcome, Returns, ◌
 use Rattle.mpl_mean.proofs.SmallPrograms.OpenTrees.{open_trees}
 use Rattle.mpl_mean.proofs.SmallPrograms.OpenedStatements.{does_opens, does_to}
 
-abbrev Doer : Type 0
+abbrev pub Doer : Type 0
 Doer = Statement → Does
 
-abbrev run_by : Doer → Context → List Statement → Effect
+abbrev pub run_by : Doer → Context → List Statement → Effect
 run_by d context statements = spend context.turns >> in_turn (map (λ s. d s context) statements)
 
 abbrev regular_by : Doer → Context → Member → List (List ℤ) → Step Arg

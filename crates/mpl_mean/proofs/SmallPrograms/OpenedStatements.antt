@@ -41,24 +41,24 @@ use Rattle.mpl_mean.proofs.SmallPrograms.OpenedExpressions.{name_opens, name_to,
 abbrev pass_by : (Expression → Evaluates) → (Expression → MayName) → Context → Expression → Step Arg
 pass_by value name context e store = held_or (whole_variable (name e) store.variables) (value e context) store
 
-abbrev flow_step_by : (Expression → Evaluates) → (Expression → MayName) → Flow-F Passes Passes → Passes
+abbrev pub flow_step_by : (Expression → Evaluates) → (Expression → MayName) → Flow-F Passes Passes → Passes
 flow_step_by value name (Flow-F.OfCall at call) = call
 flow_step_by value name (Flow-F.OfExpression at expression) = λ context. pass_by value name context expression
 
-record Passed : Type 0 where
-  call : Call → Passes
-  flow : Flow → Passes
+pub record Passed : Type 0 where
+  pub call : Call → Passes
+  pub flow : Flow → Passes
 
-abbrev passed : (Flow-F Passes Passes → Passes) → Passed
+abbrev pub passed : (Flow-F Passes Passes → Passes) → Passed
 passed step = record { call = fold-Call Passes Passes call_step step; flow = fold-Flow Passes Passes call_step step }
 
-abbrev next_passed : (Flow-F Passes Passes → Passes) → Passed → Passed
+abbrev pub next_passed : (Flow-F Passes Passes → Passes) → Passed → Passed
 next_passed step p = record {
   call = λ t. call_step (map-Call Call Flow Passes Passes p.call p.flow (out-Call t));
   flow = λ t. step (map-Flow Call Flow Passes Passes p.call p.flow (out-Flow t));
 }
 
-abbrev opened_passed : (Flow-F Passes Passes → Passes) → ℕ → Passed
+abbrev pub opened_passed : (Flow-F Passes Passes → Passes) → ℕ → Passed
 opened_passed step zero = passed step
 opened_passed step (suc n) = next_passed step (opened_passed step n)
 
@@ -71,14 +71,14 @@ passed_opens step (suc n) = one_more_passed step ∙ ap (next_passed step) (pass
 
 -- ---- what statements are made of
 
-record Parts : Type 0 where
-  value : Expression → Evaluates
-  passed : Passed
+pub record Parts : Type 0 where
+  pub value : Expression → Evaluates
+  pub passed : Passed
 
 abbrev parts : Parts
 parts = record { value = value_of; passed = record { call = call_value; flow = passes } }
 
-abbrev parts_to : ℕ → Parts
+abbrev pub parts_to : ℕ → Parts
 parts_to n = record { value = value_to n; passed = opened_passed (flow_step_by (value_to n) (name_to n)) n }
 
 parts_open : (n : ℕ) → parts ≡ parts_to n
@@ -125,7 +125,7 @@ abbrev returns_by : Parts → Context → Option Expression → Effect
 returns_by p context None = λ store. Returns [] store
 returns_by p context (Some e) = p.value e context >>= (λ value store. Returns value.words store)
 
-abbrev statement_step_by : Parts → Statement-F Does Does → Does
+abbrev pub statement_step_by : Parts → Statement-F Does Does → Does
 statement_step_by p (Statement-F.OfBlock at block) = block
 statement_step_by p (Statement-F.Declare at local) = λ context. declares_all_by p context local
 statement_step_by p (Statement-F.Assign at assignment) = λ context. assigns_by p context assignment
@@ -141,20 +141,20 @@ statement_step_by p (Statement-F.Rtf at value) = λ context. p.passed.flow value
 statement_step_by p (Statement-F.Return at value) = λ context. returns_by p context value
 statement_step_by p (Statement-F.Empty at) = λ context. nothing
 
-record Done : Type 0 where
-  statement : Statement → Does
-  block : Block → Does
+pub record Done : Type 0 where
+  pub statement : Statement → Does
+  pub block : Block → Does
 
-abbrev done : Parts → Done
+abbrev pub done : Parts → Done
 done p = record { statement = fold-Statement Does Does (statement_step_by p) block_step; block = fold-Block Does Does (statement_step_by p) block_step }
 
-abbrev next_done : Parts → Done → Done
+abbrev pub next_done : Parts → Done → Done
 next_done p d = record {
   statement = λ t. statement_step_by p (map-Statement Statement Block Does Does d.statement d.block (out-Statement t));
   block = λ t. block_step (map-Block Statement Block Does Does d.statement d.block (out-Block t));
 }
 
-abbrev opened_done : Parts → ℕ → Done
+abbrev pub opened_done : Parts → ℕ → Done
 opened_done p zero = done p
 opened_done p (suc n) = next_done p (opened_done p n)
 

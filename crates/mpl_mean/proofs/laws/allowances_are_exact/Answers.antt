@@ -1,5 +1,5 @@
 use Rattle.mpl_mean.proofs.Allowance.ExactYields.{turns_spent, turns_within}
-use Rattle.mpl_mean.proofs.Allowance.MoreAllowance.{calls_shared, spent_beyond, stays_spent}
+use Rattle.mpl_mean.proofs.Allowance.MoreAllowance.{calls_shared, creations_shared, spent_beyond, stays_spent}
 use Rattle.mpl_mean.proofs.laws.allowances_are_exact.Goals as goal
 
 pub returns-clause-within : goal.returns-clause-within
@@ -16,3 +16,6 @@ returns-clause-stays_spent c = stays_spent
 
 pub returns-clause-calls : goal.returns-clause-calls
 returns-clause-calls c = calls_shared
+
+pub returns-clause-creations : goal.returns-clause-creations
+returns-clause-creations c = creations_shared
