@@ -1,4 +1,4 @@
-ghost use Rattle.std.specs.Prelude.{◌≡◌, [], ◌∷◌, ◌++◌, ◌≤◌, ◌==◌, ◌↔◌, length, slice_get, IsNone, IfOk, OnOk, OnErr};
+ghost use Rattle.std.specs.Prelude.{◌≡◌, [], ◌∷◌, ◌++◌, ◌+◌, ◌≤◌, ◌==◌, ◌↔◌, length, take, drop, slice_get, IsNone, IfOk, OnOk, OnErr};
 
 use crate::memory::NoMemory;
 use std::alloc::Global;
@@ -60,6 +60,16 @@ impl<T: Copy> Numbers<T> {
     {
         self.items.extend_from_slice(more)?;
         Ok(())
+    }
+
+    /// These numbers in place of as many from a place on.
+    pub fn write(&mut self, at: usize, items: &[T])
+        requires { at + length items.now ≤ length self.old }
+        ensures { self.new ≡ take at self.old ++ (items.now ++ drop (at + length items.now) self.old) }
+    {
+        let numbers = self.items.as_mut_slice();
+        let end = at + items.len();
+        numbers[at..end].copy_from_slice(items);
     }
 
     pub fn get(&self, at: usize) -> Option<T>
