@@ -170,11 +170,11 @@ HaltsShorter n left callers zero = Unit {0}
 HaltsShorter n left callers (suc k) = HaltsWithin n left callers k
 
 -- the ways on from an instruction pass within fewer instructions
-abbrev all_ways_pass : ℕ → List Instr → Instr → ℕ → Type 0
+abbrev pub all_ways_pass : ℕ → List Instr → Instr → ℕ → Type 0
 all_ways_pass zero code i place = list_all (λ _. false) (ways_on i place) ≡ true
 all_ways_pass (suc k) code i place = list_all (passes code k) (ways_on i place) ≡ true
 
-ways_pass : (k : ℕ) (code : List Instr) (i : Instr) (place : ℕ) → slice_get code place ≡ Some i → passes code k place ≡ true → all_ways_pass k code i place
+pub ways_pass : (k : ℕ) (code : List Instr) (i : Instr) (place : ℕ) → slice_get code place ≡ Some i → passes code k place ≡ true → all_ways_pass k code i place
 ways_pass zero code i place is h = sym (ap (λ (o : Option Instr). all_ways (λ _. false) o place) is) ∙ h
 ways_pass (suc k) code i place is h = sym (ap (λ (o : Option Instr). all_ways (passes code k) o place) is) ∙ h
 

@@ -282,7 +282,7 @@ yields_fit image start replies n y fits yields replied = by_run (run_of yields.s
   sized : (z : Yield) (e : Ended) → run_of yields.steps s start ≡ Some e → yield_at e ≡ z → RepliesFit image replies z.calls → Sized image start z
   sized z e ran is replied =
       let ended = spends_fit (fitted s (length start.state)) s (start_body image start 0) e (exec yields.steps s) started
-          (λ g. exec_fits yields.steps s (length start.state) (record (start_body image start 0) { turns = 1 }) e started (λ _. refl) g (subst (λ (x : Yield). RepliesFit image replies x.calls) (sym is) replied)) ran in
+      (λ g. exec_fits yields.steps s (length start.state) (record (start_body image start 0) { turns = 1 }) e started (λ _. refl) g (subst (λ (x : Yield). RepliesFit image replies x.calls) (sym is) replied)) ran in
       subst (Sized image start) is (record { calls = ended.calls; result = ended.result; state = ended.frame.state })
 
   by_run : (o : Option Ended) → run_of yields.steps s start ≡ o → option_map yield_at o ≡ Some y → Sized image start y

@@ -193,19 +193,19 @@ given_fit t (InFunction function) words value stands is fits = absurd (cc is)
 given_fit t (InGuard entry) words value stands is fits = absurd (cc is)
 given_fit t (InMember id) words value stands is fits =
     subst (λ (member : Option MemberId). ResultFits (words_given t.x.image member) (result_of value)) (sym stands) (by_member (slice_get t.x.image.members id) is) where
-  by_words : (o : Option ℕ) → o ≡ Some words → (m : RawMember) → m.result ≡ o → ResultFits (Some (words_of_member (Some m))) (result_of value)
-  by_words o h m e = by_value value fits where
-    of_value : words_of_member (Some m) ≡ words
-    of_value = ap (λ (o : Option ℕ). words_of_member (Some (record m { result = o }))) (e ∙ h)
+      by_words : (o : Option ℕ) → o ≡ Some words → (m : RawMember) → m.result ≡ o → ResultFits (Some (words_of_member (Some m))) (result_of value)
+      by_words o h m e = by_value value fits where
+        of_value : words_of_member (Some m) ≡ words
+        of_value = ap (λ (o : Option ℕ). words_of_member (Some (record m { result = o }))) (e ∙ h)
 
-    by_value : (a : Arg) → ArgFits words a → ResultFits (Some (words_of_member (Some m))) (result_of a)
-    by_value (Know ws) fits = fits ∙ sym of_value
-    by_value (Trapped trap) fits = tt
-    by_value Unknown fits = tt
+        by_value : (a : Arg) → ArgFits words a → ResultFits (Some (words_of_member (Some m))) (result_of a)
+        by_value (Know ws) fits = fits ∙ sym of_value
+        by_value (Trapped trap) fits = tt
+        by_value Unknown fits = tt
 
-  by_member : (o : Option RawMember) → given o (λ m. m.result) ≡ Some words → ResultFits (Some (words_of_member o)) (result_of value)
-  by_member None h = absurd (cc h)
-  by_member (Some m) h = by_words m.result h m refl
+      by_member : (o : Option RawMember) → given o (λ m. m.result) ≡ Some words → ResultFits (Some (words_of_member o)) (result_of value)
+      by_member None h = absurd (cc h)
+      by_member (Some m) h = by_words m.result h m refl
 
 -- ---- instructions
 

@@ -149,7 +149,6 @@ agreed_fit (size ∷ sizes) (flow ∷ flows) fit h = by_test (agreed_fit sizes f
   by_test others true is g = (subst (λ (n : ℕ). ArgFits n flow.value) (eqb-true flow.words size is) fit.0, others g)
   by_test others false is g = absurd (cc g)
 
-
 -- known arguments have as many words as their formals
 pub joined_fit : (sizes : List ℕ) (arguments : List Arg) → AllZip ArgFits sizes arguments → any_unknown arguments ≡ false → leftmost_trap arguments ≡ None → length (flat_map (λ words. words) (known_words arguments)) ≡ sum sizes
 joined_fit [] [] fit known untrapped = refl

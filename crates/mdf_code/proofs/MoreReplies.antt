@@ -276,48 +276,48 @@ both_called : (t : Tables) (k l : ℕ) → AllMeet t k l → (s : Setting) (memb
     called_in_place (exec k) (under t.n t.knows s) member arguments b ≡ Some e → called_in_place (exec l) (under t.m t.more s) member arguments c ≡ Some f → Meets e f
 both_called t k l meet s member arguments b c e f twins h g =
     by_calls (called_alone (exec k) (under t.n t.knows s) member arguments b) refl (called_alone (exec l) (under t.m t.more s) member arguments c) refl h g where
-  ahead : ℕ
-  ahead = c.turns - b.turns
+      ahead : ℕ
+      ahead = c.turns - b.turns
 
-  has_more : b.turns + ahead ≡ c.turns
-  has_more = let fewer = twins.fewer in omega (arith, fewer)
+      has_more : b.turns + ahead ≡ c.turns
+      has_more = let fewer = twins.fewer in omega (arith, fewer)
 
-  goes_on : (x y : Ended) → IsCounted 0 t.n x → IsCounted 0 t.m y → (x.end ≢ end.Spent) → ended_later ahead x ≡ y →
-      goes_on_answered (exec k) (under t.n t.knows s) member (record b { turns = x.body.turns }) (arg_of_result x.body.result) ≡ Some e →
-      goes_on_answered (exec l) (under t.m t.more s) member (record c { turns = x.body.turns + ahead }) (arg_of_result x.body.result) ≡ Some f → Meets e f
-  goes_on x y counted counted_more not_spent same i j =
-      let more : IsCounted 0 t.m (ended_later ahead x) = subst (IsCounted 0 t.m) (sym same) counted_more in
-      answered_meet t k l meet s member (record b { turns = x.body.turns }) (record c { turns = x.body.turns + ahead }) e f
-      (record { before = arg_of_result x.body.result; after = arg_of_result x.body.result; stays = stays_same (arg_of_result x.body.result) })
-      (turned x.body.turns (x.body.turns + ahead) twins (counted.within not_spent) (more.within not_spent) (omega arith)) i j
+      goes_on : (x y : Ended) → IsCounted 0 t.n x → IsCounted 0 t.m y → (x.end ≢ end.Spent) → ended_later ahead x ≡ y →
+          goes_on_answered (exec k) (under t.n t.knows s) member (record b { turns = x.body.turns }) (arg_of_result x.body.result) ≡ Some e →
+          goes_on_answered (exec l) (under t.m t.more s) member (record c { turns = x.body.turns + ahead }) (arg_of_result x.body.result) ≡ Some f → Meets e f
+      goes_on x y counted counted_more not_spent same i j =
+          let more : IsCounted 0 t.m (ended_later ahead x) = subst (IsCounted 0 t.m) (sym same) counted_more in
+          answered_meet t k l meet s member (record b { turns = x.body.turns }) (record c { turns = x.body.turns + ahead }) e f
+          (record { before = arg_of_result x.body.result; after = arg_of_result x.body.result; stays = stays_same (arg_of_result x.body.result) })
+          (turned x.body.turns (x.body.turns + ahead) twins (counted.within not_spent) (more.within not_spent) (omega arith)) i j
 
-  by_end : (x y : Ended) → IsCounted 0 t.n x → IsCounted 0 t.m y → ended_later ahead x ≡ y → (o : BodyEnd) → x.end ≡ o →
-      comes_back_at (exec k) (under t.n t.knows s) member b x o ≡ Some e → comes_back_at (exec l) (under t.m t.more s) member c (ended_later ahead x) o ≡ Some f → Meets e f
-  by_end x y counted counted_more same end.Done is i j = goes_on x y counted counted_more (λ spent. absurd (cc (is, spent))) same i j
-  by_end x y counted counted_more same (end.Trap trap) is i j = goes_on x y counted counted_more (λ spent. absurd (cc (is, spent))) same i j
-  by_end x y counted counted_more same end.Waits is i j = goes_on x y counted counted_more (λ spent. absurd (cc (is, spent))) same i j
-  by_end x y counted counted_more same end.Spent is i j =
-      past_meets e f (subst (λ (z : Ended). IsPast z f) (ended_is end.Spent _ e i)
-      (subst (IsPast (record { body = record b { turns = x.body.turns }; end = end.Spent })) (ended_is end.Spent _ f j) (record { spent = inl refl; turns = omega arith })))
+      by_end : (x y : Ended) → IsCounted 0 t.n x → IsCounted 0 t.m y → ended_later ahead x ≡ y → (o : BodyEnd) → x.end ≡ o →
+          comes_back_at (exec k) (under t.n t.knows s) member b x o ≡ Some e → comes_back_at (exec l) (under t.m t.more s) member c (ended_later ahead x) o ≡ Some f → Meets e f
+      by_end x y counted counted_more same end.Done is i j = goes_on x y counted counted_more (λ spent. absurd (cc (is, spent))) same i j
+      by_end x y counted counted_more same (end.Trap trap) is i j = goes_on x y counted counted_more (λ spent. absurd (cc (is, spent))) same i j
+      by_end x y counted counted_more same end.Waits is i j = goes_on x y counted counted_more (λ spent. absurd (cc (is, spent))) same i j
+      by_end x y counted counted_more same end.Spent is i j =
+          past_meets e f (subst (λ (z : Ended). IsPast z f) (ended_is end.Spent _ e i)
+          (subst (IsPast (record { body = record b { turns = x.body.turns }; end = end.Spent })) (ended_is end.Spent _ f j) (record { spent = inl refl; turns = omega arith })))
 
-  by_alike : (x y : Ended) → IsCounted 0 t.n x → IsCounted 0 t.m y → Alike ahead x y →
-      comes_back (exec k) (under t.n t.knows s) member b (Some x) ≡ Some e → comes_back (exec l) (under t.m t.more s) member c (Some y) ≡ Some f → Meets e f
-  by_alike x y counted counted_more (inr past) i j =
-      past_meets e f (back_past t.n t.m t.less k l (under t.n t.knows s) (under t.m t.more s) member b c x y e f counted counted_more past i j)
-  by_alike x y counted counted_more (inl same) i j =
-      by_end x y counted counted_more same x.end refl i (ap (λ (z : Ended). comes_back (exec l) (under t.m t.more s) member c (Some z)) same ∙ j)
+      by_alike : (x y : Ended) → IsCounted 0 t.n x → IsCounted 0 t.m y → Alike ahead x y →
+          comes_back (exec k) (under t.n t.knows s) member b (Some x) ≡ Some e → comes_back (exec l) (under t.m t.more s) member c (Some y) ≡ Some f → Meets e f
+      by_alike x y counted counted_more (inr past) i j =
+          past_meets e f (back_past t.n t.m t.less k l (under t.n t.knows s) (under t.m t.more s) member b c x y e f counted counted_more past i j)
+      by_alike x y counted counted_more (inl same) i j =
+          by_end x y counted counted_more same x.end refl i (ap (λ (z : Ended). comes_back (exec l) (under t.m t.more s) member c (Some z)) same ∙ j)
 
-  shifted : called_alone (exec l) (at t.m s) member arguments (later ahead b) ≡ called_alone (exec l) (under t.m t.more s) member arguments c
-  shifted = ap (λ (turns : ℕ). called_alone (exec l) (at t.m s) member arguments (record b { turns = turns })) has_more
+      shifted : called_alone (exec l) (at t.m s) member arguments (later ahead b) ≡ called_alone (exec l) (under t.m t.more s) member arguments c
+      shifted = ap (λ (turns : ℕ). called_alone (exec l) (at t.m s) member arguments (record b { turns = turns })) has_more
 
-  by_calls : (o : Option Ended) → called_alone (exec k) (under t.n t.knows s) member arguments b ≡ o → (p : Option Ended) → called_alone (exec l) (under t.m t.more s) member arguments c ≡ p →
-      comes_back (exec k) (under t.n t.knows s) member b o ≡ Some e → comes_back (exec l) (under t.m t.more s) member c p ≡ Some f → Meets e f
-  by_calls None is p also i j = absurd (cc i)
-  by_calls (Some x) is None also i j = absurd (cc j)
-  by_calls (Some x) is (Some y) also i j =
-      let within = twins.within_more in
-      by_alike x y (alone_counted 0 t.n k s member arguments b x (omega arith, twins.within) is) (alone_counted 0 t.m l s member arguments c y (omega arith, twins.within_more) also)
-      (called_twice t.n t.m ahead t.less k l s member arguments b x y twins.within (omega (arith, within, has_more)) is (shifted ∙ also)) i j
+      by_calls : (o : Option Ended) → called_alone (exec k) (under t.n t.knows s) member arguments b ≡ o → (p : Option Ended) → called_alone (exec l) (under t.m t.more s) member arguments c ≡ p →
+          comes_back (exec k) (under t.n t.knows s) member b o ≡ Some e → comes_back (exec l) (under t.m t.more s) member c p ≡ Some f → Meets e f
+      by_calls None is p also i j = absurd (cc i)
+      by_calls (Some x) is None also i j = absurd (cc j)
+      by_calls (Some x) is (Some y) also i j =
+          let within = twins.within_more in
+          by_alike x y (alone_counted 0 t.n k s member arguments b x (omega arith, twins.within) is) (alone_counted 0 t.m l s member arguments c y (omega arith, twins.within_more) also)
+          (called_twice t.n t.m ahead t.less k l s member arguments b x y twins.within (omega (arith, within, has_more)) is (shifted ∙ also)) i j
 
 -- the first goes on with what isn't known
 first_unknown : (t : Tables) (k l : ℕ) → AllMeet t k l → (s : Setting) (member : ℕ) (arguments : List Arg) (b c : Body) (e f : Ended) → AreTwins t.n t.m b c →
@@ -436,14 +436,17 @@ waits_meets : (n m : ℕ) (b c : Body) (g : Frame KnownTwice) (e f : Ended) → 
     ends end.Waits (with_frame (frame_seen before g) b) ≡ Some e → Meets e f
 waits_meets n m b c g e f twins same above grown h =
     let fewer = twins.fewer in
-    subst (λ (z : Ended). Meets z f) (ended_is end.Waits _ e h) (record { turns = omega (arith, fewer, above); grows = λ _ _ _. record {
-      result = by_result b.result c.result twins.result grown.result;
-      settled = λ over. absurd over;
-      lines = subst (λ (lines : List ℕ). IsFront lines f.body.frame.lines) (sym (ap (λ (z : Frame Arg). z.lines) twins.second) ∙ ap (λ (z : Frame KnownTwice). z.lines) same) grown.lines;
-      creations = subst (λ (creations : List ℤ). IsFront creations f.body.creations) (sym twins.creations) grown.creations;
-      calls = calls_begin b.calls c.calls f.body.calls twins.calls grown.calls;
+    subst (λ (z : Ended). Meets z f) (ended_is end.Waits _ e h) (record {
       turns = omega (arith, fewer, above);
-    } }) where
+      grows = λ _ _ _. record {
+        result = by_result b.result c.result twins.result grown.result;
+        settled = λ over. absurd over;
+        lines = subst (λ (lines : List ℕ). IsFront lines f.body.frame.lines) (sym (ap (λ (z : Frame Arg). z.lines) twins.second) ∙ ap (λ (z : Frame KnownTwice). z.lines) same) grown.lines;
+        creations = subst (λ (creations : List ℤ). IsFront creations f.body.creations) (sym twins.creations) grown.creations;
+        calls = calls_begin b.calls c.calls f.body.calls twins.calls grown.calls;
+        turns = omega (arith, fewer, above);
+      };
+    }) where
       by_result : (r q : BodyResult) → IsAlike r q → ResultStays q f.body.result → ResultStays r f.body.result
       by_result result.Open q alike stays = tt
       by_result (result.Known known) q alike stays = subst (λ (x : BodyResult). ResultStays x f.body.result) (sym alike) stays

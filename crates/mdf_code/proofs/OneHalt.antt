@@ -34,10 +34,10 @@ run_kept (suc k) zero longer knows x quantum turns f s h = absurd (omega arith)
 run_kept (suc k) (suc l) longer knows x quantum turns f s h =
     after_kept (run k knows x quantum) (run l knows x quantum) quantum turns (step (framed knows) x f) (run_kept k l (omega arith) knows x quantum) s h
 
-runs_on_kept : (k l : ℕ) → k ≤ l → (image : RawImage) (start : BodyStart) (a : Alone) → IsKept (runs_on k image start a) (runs_on l image start a)
+pub runs_on_kept : (k l : ℕ) → k ≤ l → (image : RawImage) (start : BodyStart) (a : Alone) → IsKept (runs_on k image start a) (runs_on l image start a)
 runs_on_kept k l longer image start a = run_kept k l longer a.knows (around_start image start) most_turns 0 a.frame
 
-behind_kept : (k l : ℕ) → k ≤ l → (image : RawImage) (start : BodyStart) (told : List Told) → IsKept (behind k image start told) (behind l image start told)
+pub behind_kept : (k l : ℕ) → k ≤ l → (image : RawImage) (start : BodyStart) (told : List Told) → IsKept (behind k image start told) (behind l image start told)
 behind_kept k l longer image start [] a h = h
 behind_kept k l longer image start (t ∷ before) a h =
     given_kept (behind k image start before) (behind l image start before) _ _ (behind_kept k l longer image start before)

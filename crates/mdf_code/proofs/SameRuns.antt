@@ -44,20 +44,20 @@ back_alike : (n m d : ℕ) → n ≤ m → (k l : ℕ) → AreAlike n m d k l �
 back_alike n m d less k l alike s member b x y e f counted counted_more (inr past) h g = inr (back_past n m less k l s s member b (later d b) x y e f counted counted_more past h g)
 back_alike n m d less k l alike s member b x y e f counted counted_more (inl same) h g =
     by_end x.end refl h (ap (λ (z : Ended). comes_back (exec l) (at m s) member (later d b) (Some z)) same ∙ g) where
-  back : Body
-  back = record b { turns = x.body.turns }
+      back : Body
+      back = record b { turns = x.body.turns }
 
-  more : IsCounted 0 m (ended_later d x)
-  more = subst (IsCounted 0 m) (sym same) counted_more
+      more : IsCounted 0 m (ended_later d x)
+      more = subst (IsCounted 0 m) (sym same) counted_more
 
-  by_end : (o : BodyEnd) → x.end ≡ o → comes_back_at (exec k) (at n s) member b x o ≡ Some e → comes_back_at (exec l) (at m s) member (later d b) (ended_later d x) x.end ≡ Some f → Alike d e f
-  by_end end.Done is i j = alike s _ e f (counted.within (λ spent. absurd (cc (is, spent)))) (more.within (λ spent. absurd (cc (is, spent)))) i
-      (sym (ap (comes_back_at (exec l) (at m s) member (later d b) (ended_later d x)) is) ∙ j)
-  by_end (end.Trap t) is i j = alike s _ e f (counted.within (λ spent. absurd (cc (is, spent)))) (more.within (λ spent. absurd (cc (is, spent)))) i
-      (sym (ap (comes_back_at (exec l) (at m s) member (later d b) (ended_later d x)) is) ∙ j)
-  by_end end.Waits is i j = alike s _ e f (counted.within (λ spent. absurd (cc (is, spent)))) (more.within (λ spent. absurd (cc (is, spent)))) i
-      (sym (ap (comes_back_at (exec l) (at m s) member (later d b) (ended_later d x)) is) ∙ j)
-  by_end end.Spent is i j = ended_alike d end.Spent back e f i (sym (ap (comes_back_at (exec l) (at m s) member (later d b) (ended_later d x)) is) ∙ j)
+      by_end : (o : BodyEnd) → x.end ≡ o → comes_back_at (exec k) (at n s) member b x o ≡ Some e → comes_back_at (exec l) (at m s) member (later d b) (ended_later d x) x.end ≡ Some f → Alike d e f
+      by_end end.Done is i j = alike s _ e f (counted.within (λ spent. absurd (cc (is, spent)))) (more.within (λ spent. absurd (cc (is, spent)))) i
+          (sym (ap (comes_back_at (exec l) (at m s) member (later d b) (ended_later d x)) is) ∙ j)
+      by_end (end.Trap t) is i j = alike s _ e f (counted.within (λ spent. absurd (cc (is, spent)))) (more.within (λ spent. absurd (cc (is, spent)))) i
+          (sym (ap (comes_back_at (exec l) (at m s) member (later d b) (ended_later d x)) is) ∙ j)
+      by_end end.Waits is i j = alike s _ e f (counted.within (λ spent. absurd (cc (is, spent)))) (more.within (λ spent. absurd (cc (is, spent)))) i
+          (sym (ap (comes_back_at (exec l) (at m s) member (later d b) (ended_later d x)) is) ∙ j)
+      by_end end.Spent is i j = ended_alike d end.Spent back e f i (sym (ap (comes_back_at (exec l) (at m s) member (later d b) (ended_later d x)) is) ∙ j)
 
 -- a body called in place, for itself
 abbrev pub called_alone : Runs → Setting → ℕ → List (List ℤ) → Body → Option Ended
@@ -77,13 +77,13 @@ called_alike : (n m d : ℕ) → n ≤ m → (k l : ℕ) → AreAlike n m d k l 
     called_in_place (exec k) (at n s) member arguments b ≡ Some e → called_in_place (exec l) (at m s) member arguments (later d b) ≡ Some f → Alike d e f
 called_alike n m d less k l alike s member arguments b e f within within_more h g =
     by_calls (called_alone (exec k) (at n s) member arguments b) refl (called_alone (exec l) (at m s) member arguments (later d b)) refl h g where
-  by_calls : (o : Option Ended) → called_alone (exec k) (at n s) member arguments b ≡ o → (p : Option Ended) → called_alone (exec l) (at m s) member arguments (later d b) ≡ p →
-      comes_back (exec k) (at n s) member b o ≡ Some e → comes_back (exec l) (at m s) member (later d b) p ≡ Some f → Alike d e f
-  by_calls None is p also i j = absurd (cc i)
-  by_calls (Some x) is None also i j = absurd (cc j)
-  by_calls (Some x) is (Some y) also i j =
-      back_alike n m d less k l alike s member b x y e f (alone_counted 0 n k s member arguments b x (omega arith, within) is) (alone_counted 0 m l s member arguments (later d b) y (omega arith, within_more) also)
-      (alone_alike n m d less k l alike s member arguments b x y within within_more is also) i j
+      by_calls : (o : Option Ended) → called_alone (exec k) (at n s) member arguments b ≡ o → (p : Option Ended) → called_alone (exec l) (at m s) member arguments (later d b) ≡ p →
+          comes_back (exec k) (at n s) member b o ≡ Some e → comes_back (exec l) (at m s) member (later d b) p ≡ Some f → Alike d e f
+      by_calls None is p also i j = absurd (cc i)
+      by_calls (Some x) is None also i j = absurd (cc j)
+      by_calls (Some x) is (Some y) also i j =
+          back_alike n m d less k l alike s member b x y e f (alone_counted 0 n k s member arguments b x (omega arith, within) is) (alone_counted 0 m l s member arguments (later d b) y (omega arith, within_more) also)
+          (alone_alike n m d less k l alike s member arguments b x y within within_more is also) i j
 
 unless_trapped_alike : (n m d k l : ℕ) → AreAlike n m d k l → (s : Setting) (member : ℕ) (b : Body) (e f : Ended) (t : Option Trap) (o p : Option Ended) → b.turns ≤ n → b.turns + d ≤ m →
     (o ≡ Some e → p ≡ Some f → Alike d e f) → unless_trapped (exec k) (at n s) member b t o ≡ Some e → unless_trapped (exec l) (at m s) member (later d b) t p ≡ Some f → Alike d e f
@@ -138,7 +138,6 @@ exec_alike n m d less zero l s b e f within within_more h g = absurd (cc h)
 exec_alike n m d less (suc k) zero s b e f within within_more h g = absurd (cc g)
 exec_alike n m d less (suc k) (suc l) s b e f within within_more h g =
     act_alike n m d less k l (exec_alike n m d less k l) s b (step in_place (around s) b.frame) e f within within_more h g
-
 
 pub called_twice : (n m d : ℕ) → n ≤ m → (k l : ℕ) (s : Setting) (member : ℕ) (arguments : List (List ℤ)) (b : Body) (x y : Ended) → b.turns ≤ n → b.turns + d ≤ m →
     called_alone (exec k) (at n s) member arguments b ≡ Some x → called_alone (exec l) (at m s) member arguments (later d b) ≡ Some y → Alike d x y

@@ -62,7 +62,7 @@ stop_has image base told f turns (Ends line) g is has adds = (record { has = has
 stop_has image base told f turns Strays g is has adds = (record { has = has.0; given = λ h. adds.replied ∙ is.given h }, (has.1, tt))
 stop_has image base told f turns (Traps trap) g is has adds = (record { has = has.0; given = λ h. adds.replied ∙ is.given h }, (has.1, tt))
 
-abbrev kept : (ℕ → Arg) → Around → Code → ℕ → Kept Held
+abbrev pub kept : (ℕ → Arg) → Around → Code → ℕ → Kept Held
 kept knows x base calls = record { flows = framed knows; P = IsMade calls; known = λ words. tt; x = x; base = base }
 
 run_has : (image : RawImage) (start : BodyStart) (base : Code) (told : List Told) (k : ℕ) (knows : ℕ → Arg) (quantum turns : ℕ) (f : Frame Held) (stood : Stood) → IsTold base told f →
@@ -96,13 +96,13 @@ place_more P Q base code held pushed each has = record {
   flows = every_more (λ (flow : Flow Held). P flow.value) (λ (flow : Flow Held). Q flow.value) pushed (λ flow. each flow.value) has.flows;
 }
 
-frame_more : (P Q : Held → Type 0) (base : Code) (f : Frame Held) → ((x : Held) → P x → Q x) → FrameHas P base f → FrameHas Q base f
+pub frame_more : (P Q : Held → Type 0) (base : Code) (f : Frame Held) → ((x : Held) → P x → Q x) → FrameHas P base f → FrameHas Q base f
 frame_more P Q base f each has = record {
   here = place_more P Q base f.code f.variables f.flows each has.here;
   callers = every_more (λ (c : Caller Held). CallerHas P base c) (λ (c : Caller Held). CallerHas Q base c) f.callers (λ c. place_more P Q base c.code c.variables c.flows each) has.callers;
 }
 
-one_more_made : (calls : ℕ) (value : Held) → IsMade calls value → IsMade (calls + 1) value
+pub one_more_made : (calls : ℕ) (value : Held) → IsMade calls value → IsMade (calls + 1) value
 one_more_made calls (Words words) made = tt
 one_more_made calls (Pending result) made = (made.0, (let below = made.1 in omega (arith, below)))
 
@@ -135,11 +135,11 @@ told_has image base told a f Beats Beaten b calls is has h =
     subst (GoesOn base (Beaten ∷ told)) (some_alone _ b h) (record { is = record { has = is.has; given = is.given }; calls = calls })
 told_has image base told a f halt t b calls is has h = absurd (cc h)
 
-all_words : (calls : ℕ) (values : List (List ℤ)) → AllByRecursion (IsMade calls) (map Words values)
+pub all_words : (calls : ℕ) (values : List (List ℤ)) → AllByRecursion (IsMade calls) (map Words values)
 all_words calls [] = tt
 all_words calls (words ∷ values) = (tt, all_words calls values)
 
-own_code : (member : Option MemberId) → IsOf (code_of_member member) (code_of_member member)
+pub own_code : (member : Option MemberId) → IsOf (code_of_member member) (code_of_member member)
 own_code None = refl
 own_code (Some member) = refl
 

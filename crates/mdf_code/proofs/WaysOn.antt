@@ -168,6 +168,6 @@ does_move flows x (instr.Fail line) f = given_moves (instr.Fail line) f (functio
 pub step_moves : {V : Type 0} (flows : Flows V) (x : Around) (f : Frame V) (i : Instr) → slice_get (text_at x.image f.code) f.place ≡ Some i → Moves i f (step flows x f)
 step_moves {V = V} flows x f i is =
     subst (λ (o : Option Instr). Moves i f (or_strays f (given o (λ i. does flows x i f)))) (sym is) (strays (does flows x i f) (does_move flows x i f)) where
-  strays : (d : Does V) → MovesIf i f d → Moves i f (or_strays f d)
-  strays None h = tt
-  strays (Some next) h = h
+      strays : (d : Does V) → MovesIf i f d → Moves i f (or_strays f d)
+      strays None h = tt
+      strays (Some next) h = h

@@ -8,6 +8,7 @@ pub mod Sizes
 pub mod Guards
 pub mod Alone
 pub mod Told
+pub mod Right
 pub mod Listing
 pub mod Marks
 pub mod SmallCode

@@ -1,6 +1,6 @@
 -- Small images, as code written by hand below the source that they do the work of, and their yields.
 use Prim.Native.String.{String}
-use Rattle.std.specs.Prelude.{ℕ, List, [], ◌∷◌, ◌++◌, codes, Some, None, ℤ, pos}
+use Rattle.std.specs.Prelude.{ℕ, List, [], ◌∷◌, ◌++◌, replicate, codes, Some, None, ℤ, pos}
 use Rattle.mpl_value.specs.declared.body.Arg.{Arg}
 use Rattle.mpl_value.specs.declared.body.BodyEnd.{BodyEnd}
 use Rattle.mpl_value.specs.declared.body.BodyEnd.TheVariants as end
@@ -11,7 +11,7 @@ use Rattle.mpl_value.specs.declared.body.CallMade.{CallMade}
 use Rattle.mpl_value.specs.declared.body.Yield.{Yield}
 use Rattle.mpl_value.specs.declared.known.TrapKind.{TrapKind}
 use Rattle.mdf_code.specs.declared.instr.Instr.{Instr}
-use Rattle.mdf_code.specs.declared.instr.Instr.TheVariants.{Add, ArgVariable, ArgWords, Call, Create, Div, End, Fail, Fetch, Force, Greater, Input, Jump, JumpZero, Less, Load, LoadIndexed, Mul, Need, Post, Print, Push, Reply, Return, Send, SetVariable, Store, Sub, Test, Bound, Keep}
+use Rattle.mdf_code.specs.declared.instr.Instr.TheVariants.{Add, ArgVariable, ArgWords, Call, Create, Div, Drop, End, Fail, Fetch, Force, Greater, Input, Jump, JumpZero, Less, Load, LoadIndexed, Mul, Need, Post, Print, Push, Reply, Return, Send, SetVariable, Store, Sub, Test, Bound, Keep}
 use Rattle.mdf_code.specs.declared.raw.RawImage.{RawImage}
 use Rattle.mdf_code.specs.SmallCode.{code, function, member, only_main, persistent_class, regular_class, trap}
 
@@ -110,6 +110,25 @@ forces_nothing = forwards (Send 2 0 ∷ Force ∷ End 0 ∷ [])
 abbrev pub reads_element : ℕ → RawImage
 reads_element n = forwards (Push (pos n) ∷ LoadIndexed 1 0 2 7 ∷ Print (codes "i") ∷ End 0 ∷ [])
 
+-- a sum that no word has
+abbrev pub overflows : RawImage
+overflows = only_main (code [] (Push (pos 9223372036854775807) ∷ Push (pos 1) ∷ Add 3 ∷ End 0 ∷ []))
+
+-- a call on no object
+abbrev pub asks_no_object : RawImage
+asks_no_object = only_main (code [] (Push (pos 0) ∷ Bound 4 ∷ End 0 ∷ []))
+
+-- int main() { }
+abbrev pub does_nothing : RawImage
+does_nothing = only_main (code [] (End 1 ∷ []))
+
+-- a `main` past whose end it runs, and a plain function past whose end it runs
+abbrev pub runs_past : RawImage
+runs_past = only_main (code [] (Push (pos 1) ∷ []))
+
+abbrev pub runs_past_function : RawImage
+runs_past_function = record runs_past { functions = function 0 0 (code [] []) ∷ []; main = code [] (Call 0 ∷ Push (pos 1) ∷ Print (codes "i") ∷ End 0 ∷ []) }
+
 -- a number of the input
 abbrev pub reads_input : RawImage
 reads_input = only_main (code [] (Input 5 ∷ Print (codes "b") ∷ End 0 ∷ []))
@@ -143,6 +162,10 @@ prints_unawaited = record puts_and_gets { main = code (1 ∷ []) (Create 1 ∷ P
 -- two ways round, of which one passes no test
 abbrev pub goes_round : RawImage
 goes_round = only_main (code [] (Push (pos 1) ∷ JumpZero 3 ∷ Test ∷ Jump 0 ∷ End 0 ∷ []))
+
+-- a guard with one word more than so many on its stack
+abbrev pub stacks_words : ℕ → RawImage
+stacks_words n = record puts_and_gets { entries = record { class = 1; priority = 0; member = record { 0 = 1 }; guard = Some (replicate n (Push (pos 1)) ++ Push (pos 1) ∷ Drop n ∷ []) } ∷ [] }
 
 -- a guard that jumps back
 abbrev pub jumps_back : RawImage

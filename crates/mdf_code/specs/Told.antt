@@ -66,6 +66,15 @@ told_at image a f (Stands (Replies value)) Gave = Some (record a { frame = f })
 told_at image a f Beats Beaten = Some (record a { frame = f })
 told_at image a f halt told = None
 
+-- what can be told at a halt
+abbrev pub CanBeTold : Halt → Told → Type 0
+CanBeTold (Stands (Calls member object arguments)) Called = Unit {0}
+CanBeTold (Stands (Needs (Pending result))) (Learnt known) = Unit {0}
+CanBeTold (Stands (Creates class)) (Named object) = Unit {0}
+CanBeTold (Stands (Replies value)) Gave = Unit {0}
+CanBeTold Beats Beaten = Unit {0}
+CanBeTold halt told = ⊥
+
 -- the most turns between two events of a frame
 abbrev pub most_turns : ℕ
 most_turns = 256

@@ -216,9 +216,13 @@ abbrev pub made : ℕ → ℤ → List Arg → Body → Body
 made member object arguments b =
     record b { calls = b.calls ++ record { call = length b.calls + 1; object = object; member = record { 0 = member }; args = arguments } ∷ [] }
 
+-- the answer of a call on a persistent object: that of its reply, and for a body that runs alone what it is given
+abbrev pub reply_to : List Arg → (ℕ → Arg) → Body → Option (ℕ → Arg) → Arg
+reply_to arguments replies b None = answer arguments (replies (length b.calls + 1))
+reply_to arguments replies b (Some answers) = answers b.sent
+
 abbrev pub persistent_call : Runs → Setting → ℕ → ℤ → List Arg → Body → Option Ended
-persistent_call again s member object arguments b =
-    goes_on_answered again s member (made member object arguments b) (answer arguments (s.replies (length b.calls + 1)))
+persistent_call again s member object arguments b = goes_on_answered again s member (made member object arguments b) (reply_to arguments s.replies b s.answers)
 
 abbrev pub found_regular : RawImage → Option RawMember → Bool
 found_regular image None = false

@@ -40,6 +40,7 @@ pub fn words_are_kept()
     ensures copy { variables_after (instr.Copy 2 1) [] ≡ Some (number 4 ∷ pair 5 6 ∷ pair 5 6 ∷ []) }
     ensures set_variable { variables_after (instr.SetVariable 2) [] ≡ Some (number 4 ∷ pair 5 6 ∷ pair 1 2 ∷ []) }
     ensures needed { words_after (instr.Need 0) [] ≡ Some [] }
+    ensures need_traps { stop_of (one (instr.Need 0) InMain [] [] (Trapped (trap DivZero 3) ∷ [])) ≡ traps_with DivZero 3 }
     ensures needs { stops_with (instr.Need 2) [] [] ≡ Some (Needs Unknown) }
     ensures fetch { seen (λ f. f.words) (one (instr.Fetch 0 2) (InMember 2) [] [] []) ≡ Some (pos 8 ∷ pos 7 ∷ []) }
     ensures fetch_indexed { seen (λ f. f.words) (one (instr.FetchIndexed 1 1 8) (InMember 2) (pos 0 ∷ []) [] []) ≡ Some (pos 8 ∷ []) }
@@ -104,15 +105,20 @@ pub fn steps_stray()
     ensures post_regular { strays (instr.Post 0 2) InMain (pos 5 ∷ []) (flow (number 2) 1 ∷ flow (number 1) 1 ∷ []) ≡ true }
     ensures create_regular { strays (instr.Create 0) InMain [] [] ≡ true }
     ensures count { strays (instr.Send 0 1) InMain [] (flow (number 1) 1 ∷ []) ≡ true }
+    ensures count_posted { strays (instr.Post 1 0) InMain (pos 5 ∷ []) [] ≡ true }
     ensures no_word { strays (instr.Add 8) InMain (pos 1 ∷ []) [] ≡ true }
     ensures no_flow { strays instr.Force InMain [] [] ≡ true }
     ensures not_known { strays (instr.Load 2 0 2) InMain [] [] ≡ true }
     ensures size_of_variable { strays (instr.SetVariable 0) InMain [] (flow Unknown 2 ∷ []) ≡ true }
     ensures size_of_formal { strays (instr.Send 0 2) InMain [] (flow Unknown 1 ∷ flow Unknown 2 ∷ []) ≡ true }
     ensures size_of_result { strays (instr.Reply 8) (InMember 2) [] (flow Unknown 2 ∷ []) ≡ true }
+    ensures size_of_source { strays (instr.Copy 0 1) InMain [] [] ≡ true }
+    ensures size_of_state { strays (instr.Keep 1 2) (InMember 2) (pos 1 ∷ pos 2 ∷ []) [] ≡ true }
+    ensures size_returned { strays (instr.Return 2) (InFunction 0) (pos 1 ∷ pos 2 ∷ []) [] ≡ true }
     ensures reply_in_main { strays (instr.Reply 8) InMain [] (flow Unknown 1 ∷ []) ≡ true }
     ensures reply_in_void { strays (instr.Reply 8) (InMember 1) [] (flow Unknown 0 ∷ []) ≡ true }
     ensures input_in_member { strays (instr.Input 8) (InMember 2) [] [] ≡ true }
+    ensures state_in_main { strays (instr.Fetch 0 1) InMain [] [] ≡ true }
     ensures self_in_main { strays instr.Own InMain [] [] ≡ true }
     ensures post_in_regular { strays (instr.Post 2 0) (InMember 0) (pos 5 ∷ []) [] ≡ true }
     ensures send_in_function { strays (instr.Send 0 2) (InFunction 0) [] (flow (number 2) 1 ∷ flow (number 1) 1 ∷ []) ≡ true }

@@ -25,3 +25,11 @@ returns-clause-no_reply c = λ replies. refl
 pub returns-clause-twice : goal.returns-clause-twice
 unfolding digits
 returns-clause-twice c = λ replies. refl
+
+pub returns-clause-overflow : goal.returns-clause-overflow
+unfolding digits
+returns-clause-overflow c = λ replies. refl
+
+pub returns-clause-unbound : goal.returns-clause-unbound
+unfolding digits
+returns-clause-unbound c = λ replies. refl
