@@ -1,5 +1,5 @@
 -- A body numbers its calls.
-use Rattle.std.proofs.Common.{◌≡◌, ℕ, zero, suc, ◌+◌, Bool, true, false, List, [], ◌∷◌, ◌++◌, length, Option, Some, None, if◌then◌else◌, nat_lt, ℤ, refl, sym, ap, subst, arith}
+use Rattle.std.proofs.Common.{◌≡◌, ℕ, zero, suc, ◌+◌, Bool, true, false, List, [], ◌∷◌, ◌++◌, length, Option, Some, None, if◌then◌else◌, nat_lt, ℤ, refl, sym, subst, arith}
 use Rattle.std.specs.FinMap.{FinMap, empty}
 use Rattle.std.specs.Ordering.{nat_cmp}
 use Rattle.mpl_ast.specs.declared.program.Declaration.{Declaration}
@@ -23,7 +23,7 @@ use Rattle.mpl_mean.specs.Meaning.Context.{Context}
 use Rattle.mpl_mean.specs.Meaning.ExpressionMeaning.{next_of, next_number}
 use Rattle.mpl_mean.specs.Meaning.Layout.{Class, Function, Member, classes_of}
 use Rattle.mpl_mean.specs.Meaning.StatementMeaning.{Effect, give_result, gives_result, nothing, while_loop}
-use Rattle.mpl_mean.specs.Meaning.Store.{Store, Outcome, Goes, Returns, Ends, Step, ◌>>=◌, ◌>>◌, and_then, force, in_scope, only_oldest, pure, spend, stop, variable_named}
+use Rattle.mpl_mean.specs.Meaning.Store.{Store, Outcome, Goes, Returns, Ends, Step, ◌>>=◌, ◌>>◌, and_then, force, only_oldest, pure, spend, stop, variable_named}
 use Rattle.mpl_mean.specs.Meaning.Values.{Value, is_true}
 use Rattle.mpl_mean.proofs.Allowance.Tells.{Tells, main_tells, member_tells}
 use Rattle.mpl_mean.proofs.MoreReplies.ComesBack.{after_plain, after_regular}

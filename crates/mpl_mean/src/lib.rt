@@ -7,8 +7,8 @@ mod typed;
 mod worked;
 
 pub use laws::{
-    allowances_are_exact, calls_are_numbered, calls_in_place_are_bodies_alone, more_replies_only_add,
-    more_turns_change_nothing, only_replies_are_awaited, refusals_are_least,
+    allowances_are_exact, calls_are_numbered, calls_in_place_are_bodies_alone,
+    more_replies_only_add, more_turns_change_nothing, only_replies_are_awaited, refusals_are_least,
     seven_rules_are_enough, sizes_are_kept, tokens_are_few,
 };
 pub use typed::Typed;

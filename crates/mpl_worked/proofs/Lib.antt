@@ -1,1 +1,1 @@
-mod TreeOfSource
+pub mod TreeOfSource

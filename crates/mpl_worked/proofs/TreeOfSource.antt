@@ -23,7 +23,7 @@ abbrev given_program : Option Program → Program
 given_program None = record { at = record { span = record { from = 0; to = 0 }; line = 1; id = 0 }; declarations = [] }
 given_program (Some p) = p
 
-abbrev taken : List Token → Option Program
+abbrev pub taken : List Token → Option Program
 taken tokens = take_program (12 * length tokens + 1) tokens
 
 abbrev pub tree_of : List ℕ → Program
@@ -32,7 +32,7 @@ tree_of source = given_program (taken (all_tokens source))
 some_program : {p q : Program} → ◌≡◌ {A = Option Program} (Some p) (Some q) → p ≡ q
 some_program e = cc
 
-spelled_tree : (tokens : List Token) (p : Program) → is_accepted (trace tokens []) ≡ true → taken tokens ≡ Some p → spells p tokens ≡ true
+pub spelled_tree : (tokens : List Token) (p : Program) → is_accepted (trace tokens []) ≡ true → taken tokens ≡ Some p → spells p tokens ≡ true
 spelled_tree tokens p h e =
     let s = accepted-spelled tokens h in
     let same = some_program (sym (program-taken s.program tokens (12 * length tokens + 1) s.spelled (omega arith)) ∙ e) in

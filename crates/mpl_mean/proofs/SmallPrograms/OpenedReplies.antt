@@ -1,6 +1,6 @@
 -- What a body does with replies, in a form that computes. What a finite map has at a key doesn't compute, so the replies
 -- are looked up by a function beside it.
-use Rattle.std.proofs.Common.{◌≡◌, ℕ, zero, suc, ◌+◌, List, [], ◌∷◌, map, Option, Some, None, if◌then◌else◌, ℤ, refl, sym, ap, ◌∙◌, subst}
+use Rattle.std.proofs.Common.{◌≡◌, ℕ, zero, suc, List, [], ◌∷◌, map, Option, Some, None, if◌then◌else◌, ℤ, refl, ap, ◌∙◌}
 use Rattle.std.proofs.Math.Path.{fun_ext}
 use Rattle.std.specs.Fmt.{digits}
 use Rattle.std.specs.FinMap.{FinMap, empty, get, get-empty}
@@ -23,14 +23,14 @@ use Rattle.mpl_value.specs.declared.body.MemberId.{MemberId}
 use Rattle.mpl_value.specs.declared.body.Yield.{Yield}
 use Rattle.mpl_value.specs.declared.known.Known.{Known}
 use Rattle.mpl_value.specs.CallAnswers.{arg_of_reply}
-use Rattle.mpl_mean.specs.Meaning.BodyMeaning.{back_with, callees_at, body_of, context_with, formals_holding, in_class, main_statements, main_yield, member_end, member_of_classes, member_yield, split_words, store_of, store_with, with_variables, yield_of}
+use Rattle.mpl_mean.specs.Meaning.BodyMeaning.{callees_at, body_of, context_with, formals_holding, in_class, main_statements, main_yield, member_of_classes, member_yield, split_words, store_with, with_variables, yield_of}
 use Rattle.mpl_mean.specs.Meaning.CallMeaning.{MayName, Passes, answer, at_context, call_of_member, call_step, class_of_location, made, regular_call, bound}
 use Rattle.mpl_mean.specs.Meaning.Context.{Callees, Context}
 use Rattle.mpl_mean.specs.Meaning.ExpressionMeaning.{Evaluates}
 use Rattle.mpl_mean.specs.Meaning.Layout.{Class, Function, Member, classes_of, member_named}
 use Rattle.mpl_mean.specs.Meaning.PlaceMeaning.{Location, location_of, words_of_location}
 use Rattle.mpl_mean.specs.Meaning.StatementMeaning.{Does, Effect, block_step, does}
-use Rattle.mpl_mean.specs.Meaning.Store.{Store, Step, Ends, Goes, Outcome, Returns, ◌>>=◌, ◌>>◌, all_of, in_scope, in_turn, pure, spend, stop, waits}
+use Rattle.mpl_mean.specs.Meaning.Store.{Step, Ends, ◌>>=◌, ◌>>◌, all_of, in_scope, in_turn, pure, spend, stop, waits}
 use Rattle.mpl_mean.specs.Meaning.Values.{Value, first_word}
 use Rattle.mpl_mean.proofs.MoreReplies.ComesBack.{after_plain, after_regular}
 use Rattle.mpl_mean.proofs.SmallPrograms.OpenedBodies.{Doer, run_by}

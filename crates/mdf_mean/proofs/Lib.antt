@@ -1,0 +1,11 @@
+pub mod Basics
+pub mod Found
+pub mod Picked
+pub mod Sized
+pub mod Along
+pub mod AlongReplies
+pub mod AlongAccepts
+pub mod Whole
+pub mod Alike
+pub mod Decided
+pub mod DecidedClosed

@@ -1,0 +1,13 @@
+pub mod Kept
+pub mod Meanings
+pub mod Histories
+pub mod Ran
+pub mod Picks
+pub mod Explained
+pub mod Fits
+pub mod Decides
+pub mod Later
+pub mod Guards
+pub mod Language
+pub mod LawfulLanguage
+pub mod Agree

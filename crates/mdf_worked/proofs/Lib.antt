@@ -1,0 +1,2 @@
+pub mod OpenedLanguage
+pub mod OfSource

@@ -1,0 +1,14 @@
+use Rattle.std.proofs.Common.{refl}
+use Rattle.mpl_worked.proofs.TreeOfSource.{tree_of}
+use Rattle.mdf_worked.specs.JournalSources as source
+use Rattle.mdf_worked.proofs.OfSource.{has_program}
+use Rattle.mdf_worked.proofs.OpenedLanguage.{explains, fails_at, opened_language}
+use Rattle.mdf_worked.proofs.journals.priorities_decide.Goals as goal
+
+pub returns-clause-whole : goal.returns-clause-whole
+unfolding opened_language
+returns-clause-whole c = has_program source.desk _ refl refl refl (explains 100 _ _ 8 (tree_of source.desk) refl refl refl refl)
+
+pub returns-clause-low_before_high : goal.returns-clause-low_before_high
+unfolding opened_language
+returns-clause-low_before_high c = has_program source.desk _ refl refl refl (fails_at 100 _ _ (tree_of source.desk) refl refl)

@@ -1,0 +1,2 @@
+pub mod JournalSources
+pub mod WorkedJournals
