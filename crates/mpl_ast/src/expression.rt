@@ -6,7 +6,7 @@ use sqlite_items::{Boxed, Items};
 #[derive(Drop)]
 pub enum Expression {
     OneConjunction(At, Conjunction),
-    Or(At, u32, Boxed<Expression>, Conjunction),
+    Or(At, u32, Boxed<Expression>, Boxed<Conjunction>),
 }
 
 /// `eql | and '&&' eql`
@@ -14,7 +14,7 @@ pub enum Expression {
 #[derive(Drop)]
 pub enum Conjunction {
     OneEquality(At, Equality),
-    And(At, u32, Boxed<Conjunction>, Equality),
+    And(At, u32, Boxed<Conjunction>, Boxed<Equality>),
 }
 
 #[derive(Clone, Copy, Debug, PartialEq, Eq)]
@@ -28,7 +28,7 @@ pub enum EqualityOperator {
 #[derive(Drop)]
 pub enum Equality {
     OneRelation(At, Relation),
-    Equate(At, u32, Boxed<Equality>, EqualityOperator, Relation),
+    Equate(At, u32, Boxed<Equality>, EqualityOperator, Boxed<Relation>),
 }
 
 #[derive(Clone, Copy, Debug, PartialEq, Eq)]
@@ -44,7 +44,7 @@ pub enum RelationOperator {
 #[derive(Drop)]
 pub enum Relation {
     OneSum(At, Sum),
-    Compare(At, u32, Boxed<Relation>, RelationOperator, Sum),
+    Compare(At, u32, Boxed<Relation>, RelationOperator, Boxed<Sum>),
 }
 
 #[derive(Clone, Copy, Debug, PartialEq, Eq)]
@@ -58,7 +58,7 @@ pub enum SumOperator {
 #[derive(Drop)]
 pub enum Sum {
     OneTerm(At, Term),
-    Add(At, u32, Boxed<Sum>, SumOperator, Term),
+    Add(At, u32, Boxed<Sum>, SumOperator, Boxed<Term>),
 }
 
 #[derive(Clone, Copy, Debug, PartialEq, Eq)]
@@ -73,7 +73,7 @@ pub enum TermOperator {
 #[derive(Drop)]
 pub enum Term {
     OneUnary(At, Unary),
-    Multiply(At, u32, Boxed<Term>, TermOperator, Unary),
+    Multiply(At, u32, Boxed<Term>, TermOperator, Boxed<Unary>),
 }
 
 #[derive(Clone, Copy, Debug, PartialEq, Eq)]

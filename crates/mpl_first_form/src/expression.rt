@@ -49,7 +49,7 @@ fn is_first_sum(node: &Sum) -> bool
 {
     match node {
         Sum::OneTerm(_, inner) => is_first_term(inner),
-        Sum::Add(_, _, left, _, right) => is_first_sum(left.get()) && is_first_term(right),
+        Sum::Add(_, _, left, _, right) => is_first_sum(left.get()) && is_first_term(right.get()),
     }
 }
 
@@ -59,7 +59,7 @@ fn is_first_term(node: &Term) -> bool
     match node {
         Term::OneUnary(_, inner) => is_first_unary(inner),
         Term::Multiply(_, _, left, operator, right) => {
-            is_first_term(left.get()) && is_product(*operator) && is_first_unary(right)
+            is_first_term(left.get()) && is_product(*operator) && is_first_unary(right.get())
         }
     }
 }

@@ -85,7 +85,7 @@ fn sum_value(variables: &[Variable], node: &Sum) -> Result<Option<i64>, Trap>
         Sum::OneTerm(_, inner) => term_value(variables, inner),
         Sum::Add(_, line, left, operator, right) => {
             let a = number(sum_value(variables, left.get())?);
-            let b = number(term_value(variables, right)?);
+            let b = number(term_value(variables, right.get())?);
             let outcome = match operator {
                 SumOperator::Plus => add(a, b),
                 SumOperator::Minus => sub(a, b),
@@ -103,7 +103,7 @@ fn term_value(variables: &[Variable], node: &Term) -> Result<Option<i64>, Trap>
         Term::OneUnary(_, inner) => unary_value(variables, inner),
         Term::Multiply(_, line, left, operator, right) => {
             let a = number(term_value(variables, left.get())?);
-            let b = number(unary_value(variables, right)?);
+            let b = number(unary_value(variables, right.get())?);
             match operator {
                 TermOperator::Times => on_line(*line, mul(a, b)),
                 TermOperator::Over | TermOperator::Modulo => unreachable!(),

@@ -8,7 +8,7 @@ use Rattle.mpl_ast.specs.declared.expression.Relation.{out-Relation, roll-Relati
 use Rattle.mpl_ast.specs.declared.expression.Sum.{out-Sum, roll-Sum}
 use Rattle.mpl_ast.specs.declared.expression.Term.{out-Term, roll-Term}
 use Rattle.mpl_ast.specs.declared.expression.Unary.{out-Unary, roll-Unary}
-use Rattle.mpl_ast.specs.declared.expression.Conjunction.TheBlock.{shown-the_row-Conjunction-0, hidden-the_row-Conjunction-0, shown-the_row-Equality-1, hidden-the_row-Equality-1, shown-the_row-Expression-2, hidden-the_row-Expression-2, shown-the_row-Expression-4, hidden-the_row-Expression-4, shown-the_row-Place-3, hidden-the_row-Place-3, shown-the_row-Relation-5, hidden-the_row-Relation-5, shown-the_row-Sum-6, hidden-the_row-Sum-6, shown-the_row-Term-7, hidden-the_row-Term-7, shown-the_row-Unary-8, hidden-the_row-Unary-8}
+use Rattle.mpl_ast.specs.declared.expression.Conjunction.TheBlock.{shown-the_row-Conjunction-0, hidden-the_row-Conjunction-0, shown-the_row-Equality-1, hidden-the_row-Equality-1, shown-the_row-Expression-3, hidden-the_row-Expression-3, shown-the_row-Expression-5, hidden-the_row-Expression-5, shown-the_row-Place-4, hidden-the_row-Place-4, shown-the_row-Relation-2, hidden-the_row-Relation-2, shown-the_row-Sum-6, hidden-the_row-Sum-6, shown-the_row-Term-7, hidden-the_row-Term-7, shown-the_row-Unary-8, hidden-the_row-Unary-8}
 use Rattle.mpl_ast.specs.declared.flow.Call.{out-Call, roll-Call}
 use Rattle.mpl_ast.specs.declared.flow.Flow.{out-Flow, roll-Flow}
 use Rattle.mpl_ast.specs.declared.flow.Call.TheBlock.{shown-the_row-Flow-0, hidden-the_row-Flow-0, shown-the_row-Call-1, hidden-the_row-Call-1}
@@ -22,7 +22,7 @@ open_layers = tt
 
 -- the boxes and lists in them
 unfoldable open_expressions : Unit {0}
-unfolding shown-the_row-Conjunction-0 hidden-the_row-Conjunction-0 shown-the_row-Equality-1 hidden-the_row-Equality-1 shown-the_row-Expression-2 hidden-the_row-Expression-2 shown-the_row-Expression-4 hidden-the_row-Expression-4 shown-the_row-Place-3 hidden-the_row-Place-3 shown-the_row-Relation-5 hidden-the_row-Relation-5 shown-the_row-Sum-6 hidden-the_row-Sum-6 shown-the_row-Term-7 hidden-the_row-Term-7 shown-the_row-Unary-8 hidden-the_row-Unary-8 denote.Hole.Carrier.shown denote.Hole.Carrier.hidden
+unfolding shown-the_row-Conjunction-0 hidden-the_row-Conjunction-0 shown-the_row-Equality-1 hidden-the_row-Equality-1 shown-the_row-Expression-3 hidden-the_row-Expression-3 shown-the_row-Expression-5 hidden-the_row-Expression-5 shown-the_row-Place-4 hidden-the_row-Place-4 shown-the_row-Relation-2 hidden-the_row-Relation-2 shown-the_row-Sum-6 hidden-the_row-Sum-6 shown-the_row-Term-7 hidden-the_row-Term-7 shown-the_row-Unary-8 hidden-the_row-Unary-8 denote.Hole.Carrier.shown denote.Hole.Carrier.hidden
 open_expressions = tt
 
 unfoldable open_calls : Unit {0}
