@@ -1,5 +1,3 @@
 pub mod Alike
-pub mod Numbers
-pub mod Pieces
-pub mod Sums
+mod Sums
 pub mod Turns

@@ -5,8 +5,8 @@ ghost use Rattle.mpl_trees.specs.Ahead as spec;
 ghost use Rattle.mpl_expressions.specs.Internal.Lead.{IsCounted, IsScanned, IsStep, depth, step_depth, stepped};
 ghost use Rattle.mpl_ast.specs.declared.token.TokenKind.TheVariants as kind;
 
-use crate::ahead::level_of;
 use mpl_ast::token::{Mark, Token, TokenKind};
+use mpl_reader::ahead::level_of;
 use mpl_trees::position::Position;
 
 /// Where one comes with a token.

@@ -9,14 +9,13 @@ ghost use Rattle.mpl_trees.specs.Taking as taking;
 ghost use Rattle.mpl_trees.specs.Taking.{Takes};
 ghost use Rattle.mpl_ast.specs.declared.expression.Expression.{Expression};
 ghost use Rattle.mpl_expressions.specs.Internal.Operands.{take_input, take_number_alone};
-ghost use Rattle.mpl_expressions.specs.Reader.{Took, rest_of};
+ghost use Rattle.mpl_reader.specs.Reader.{Took, rest_of};
 
-use crate::ahead::{second, sees_mark};
-use crate::reader::Reader;
-use crate::stop::Stop;
 use mpl_ast::Name;
 use mpl_ast::expression::{Primary, Target, UnaryOperator};
 use mpl_ast::token::{Keyword, Mark};
+use mpl_reader::ahead::{second, sees_mark};
+use mpl_reader::{Reader, Stop};
 use std::alloc::Global;
 
 /// A variable.

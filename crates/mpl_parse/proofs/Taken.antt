@@ -6,7 +6,7 @@ use Rattle.mpl_mean.specs.Limits.{most_tokens}
 use Rattle.mpl_mean.specs.Text.ParseFaults.{HasLightProgram}
 use Rattle.mpl_mean.specs.Text.ProgramText.{spells}
 use Rattle.mpl_mean.specs.Text.Weight.{is_light}
-use Rattle.mpl_expressions.specs.Reader.{most_number}
+use Rattle.mpl_reader.specs.Reader.{most_number}
 use Rattle.mpl_trees.specs.Programs.{take_program}
 
 abbrev pub AreTaken : Type 0

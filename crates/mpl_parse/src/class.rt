@@ -4,7 +4,7 @@ ghost use Rattle.std.specs.Prelude.{◌≡◌, Some};
 ghost use Rattle.mpl_ast.specs.declared.token.TokenKind.TheVariants as kind;
 ghost use Rattle.mpl_trees.specs.Programs as spec;
 ghost use Rattle.mpl_trees.specs.Taking as taking;
-ghost use Rattle.mpl_expressions.specs.Reader.{Took, rest_of};
+ghost use Rattle.mpl_reader.specs.Reader.{Took, rest_of};
 ghost use Rattle.mpl_parse.specs.Internal.Forms.{take_accepted, take_empty_item, take_entry_behind, take_field_item, take_formals_within, take_guard_if_any, take_private, take_public};
 
 use crate::local::{dimension_if_any, type_name};
@@ -15,8 +15,8 @@ use mpl_ast::expression::Expression;
 use mpl_ast::statement::Block;
 use mpl_ast::token::{Keyword, Mark, TokenKind};
 use mpl_ast::{Name, Number};
-use mpl_expressions::ahead::{second, sees_keyword, sees_mark};
-use mpl_expressions::{Reader, Stop};
+use mpl_reader::ahead::{second, sees_keyword, sees_mark};
+use mpl_reader::{Reader, Stop};
 use sqlite_items::Items;
 use std::alloc::Global;
 

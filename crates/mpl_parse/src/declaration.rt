@@ -3,7 +3,7 @@
 ghost use Rattle.std.specs.Prelude.{◌≡◌, [], Some};
 ghost use Rattle.mpl_trees.specs.Programs as spec;
 ghost use Rattle.mpl_trees.specs.Taking as taking;
-ghost use Rattle.mpl_expressions.specs.Reader.{Took, most_number, rest_of};
+ghost use Rattle.mpl_reader.specs.Reader.{Took, most_number, rest_of};
 ghost use Rattle.mpl_parse.specs.Internal.Forms.{TookProgram, take_class_behind};
 
 use crate::class::{field, function, item};
@@ -12,8 +12,8 @@ use mpl_ast::class::{Field, Item, Kind};
 use mpl_ast::program::{Declaration, Program};
 use mpl_ast::token::{Keyword, Mark, Token, TokenKind};
 use mpl_ast::{At, Name, Span};
-use mpl_expressions::ahead::sees_mark;
-use mpl_expressions::{Reader, Stop};
+use mpl_reader::ahead::sees_mark;
+use mpl_reader::{Reader, Stop};
 use sqlite_items::Items;
 use std::alloc::Global;
 

@@ -4,15 +4,16 @@ ghost use Rattle.std.specs.Prelude.{◌≡◌};
 ghost use Rattle.mpl_trees.specs.Expressions as expressions;
 ghost use Rattle.mpl_trees.specs.Flows as spec;
 ghost use Rattle.mpl_trees.specs.Taking as taking;
-ghost use Rattle.mpl_expressions.specs.Reader.{Took, rest_of};
+ghost use Rattle.mpl_reader.specs.Reader.{Took, rest_of};
 ghost use Rattle.mpl_parse.specs.Internal.Forms.{take_call_flow, take_expression_flow};
 
 use mpl_ast::Name;
 use mpl_ast::expression::Target;
 use mpl_ast::flow::{Assignment, Call, Flow};
 use mpl_ast::token::{Keyword, Mark, Token, TokenKind};
-use mpl_expressions::ahead::{past_field, second, sees_mark};
-use mpl_expressions::{Reader, Stop, expression, field, place, variable};
+use mpl_expressions::{expression, field, place, variable};
+use mpl_reader::ahead::{past_field, second, sees_mark};
+use mpl_reader::{Reader, Stop};
 use sqlite_items::{Boxed, Items};
 use std::alloc::Global;
 

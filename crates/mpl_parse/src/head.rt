@@ -3,7 +3,7 @@
 ghost use Rattle.std.specs.Prelude.{◌≡◌};
 ghost use Rattle.mpl_trees.specs.Statements as spec;
 ghost use Rattle.mpl_trees.specs.Taking as taking;
-ghost use Rattle.mpl_expressions.specs.Reader.{Took, rest_of};
+ghost use Rattle.mpl_reader.specs.Reader.{Took, rest_of};
 ghost use Rattle.mpl_parse.specs.Internal.Forms.{take_assigned_start, take_declared_start, take_named_start, take_start_if_any, take_step_if_any};
 
 use crate::flow::assignment;
@@ -11,8 +11,9 @@ use crate::local::local;
 use mpl_ast::flow::Assignment;
 use mpl_ast::statement::{ForHead, ForStart};
 use mpl_ast::token::{Mark, TokenKind};
-use mpl_expressions::ahead::{second, sees_mark, sees_name};
-use mpl_expressions::{Reader, Stop, expression};
+use mpl_expressions::expression;
+use mpl_reader::ahead::{second, sees_mark, sees_name};
+use mpl_reader::{Reader, Stop};
 use sqlite_items::Boxed;
 use std::alloc::Global;
 

@@ -4,14 +4,14 @@ ghost use Rattle.std.specs.Prelude.{◌≡◌};
 ghost use Rattle.mpl_trees.specs.Flows.{take_flow};
 ghost use Rattle.mpl_trees.specs.Locals as spec;
 ghost use Rattle.mpl_trees.specs.Taking as taking;
-ghost use Rattle.mpl_expressions.specs.Reader.{Took, rest_of};
+ghost use Rattle.mpl_reader.specs.Reader.{Took, rest_of};
 ghost use Rattle.mpl_parse.specs.Internal.Forms.{take_bool, take_int, take_named_type};
 
 use crate::flow::flow;
 use mpl_ast::statement::{Declarator, Dimension, Local, TypeName};
 use mpl_ast::token::{Keyword, Mark, TokenKind};
-use mpl_expressions::ahead::sees_mark;
-use mpl_expressions::{Reader, Stop};
+use mpl_reader::ahead::sees_mark;
+use mpl_reader::{Reader, Stop};
 use sqlite_items::Items;
 use std::alloc::Global;
 

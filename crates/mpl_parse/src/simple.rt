@@ -5,7 +5,7 @@ ghost use Rattle.mpl_trees.specs.Expressions.{take_expression};
 ghost use Rattle.mpl_trees.specs.Flows.{take_flow};
 ghost use Rattle.mpl_trees.specs.Statements as spec;
 ghost use Rattle.mpl_trees.specs.Taking as taking;
-ghost use Rattle.mpl_expressions.specs.Reader.{Skipped, Took, rest_of};
+ghost use Rattle.mpl_reader.specs.Reader.{Skipped, Took, rest_of};
 ghost use Rattle.mpl_parse.specs.Internal.Forms.{creation, take_assign, take_call_alone, take_create_statement, take_empty, take_value_if_any};
 
 use crate::flow::{assignment, begins_call, call, called, flow};
@@ -14,8 +14,9 @@ use mpl_ast::expression::{Expression, Target};
 use mpl_ast::flow::Flow;
 use mpl_ast::statement::Statement;
 use mpl_ast::token::{Keyword, Mark, Token};
-use mpl_expressions::ahead::{past_field, second, sees_keyword, sees_mark, sees_name};
-use mpl_expressions::{Reader, Stop, expression, expressions};
+use mpl_expressions::{expression, expressions};
+use mpl_reader::ahead::{past_field, second, sees_keyword, sees_mark, sees_name};
+use mpl_reader::{Reader, Stop};
 use sqlite_items::Items;
 use std::alloc::Global;
 

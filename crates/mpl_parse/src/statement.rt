@@ -3,15 +3,15 @@
 ghost use Rattle.std.specs.Prelude.{◌≡◌};
 ghost use Rattle.mpl_trees.specs.Statements as spec;
 ghost use Rattle.mpl_trees.specs.Taking as taking;
-ghost use Rattle.mpl_expressions.specs.Reader.{Took, rest_of};
+ghost use Rattle.mpl_reader.specs.Reader.{Took, rest_of};
 ghost use Rattle.mpl_parse.specs.Internal.Forms.{statement_of, take_of_block, take_other};
 
 use crate::head::for_head;
 use crate::simple::{call_alone, declared, empty, named, print, returned, rtf, test};
 use mpl_ast::statement::{Block, Statement};
 use mpl_ast::token::{Keyword, Mark, TokenKind};
-use mpl_expressions::ahead::{sees_keyword, sees_mark};
-use mpl_expressions::{Reader, Stop};
+use mpl_reader::ahead::{sees_keyword, sees_mark};
+use mpl_reader::{Reader, Stop};
 use sqlite_items::{Boxed, Items};
 use std::alloc::Global;
 

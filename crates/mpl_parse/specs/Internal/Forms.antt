@@ -25,8 +25,8 @@ use Rattle.mpl_trees.specs.Locals.{take_local}
 use Rattle.mpl_trees.specs.Programs.{take_braced, take_field, take_formals, take_guard, take_item}
 use Rattle.mpl_trees.specs.Statements.{statement_at, take_block, take_create, take_for_start}
 use Rattle.mpl_trees.specs.Taking.{Takes, ahead, alone, both, is_ahead, is_any_name, made, node_of, skip_then, take_name, take_number, then_skip, unless_ahead, where_ahead}
-use Rattle.mpl_expressions.specs.declared.stop.Stop.{Stop}
-use Rattle.mpl_expressions.specs.declared.stop.Stop.TheVariants.{Stuck}
+use Rattle.mpl_reader.specs.declared.stop.Stop.{Stop}
+use Rattle.mpl_reader.specs.declared.stop.Stop.TheVariants.{Stuck}
 
 -- ---- types
 

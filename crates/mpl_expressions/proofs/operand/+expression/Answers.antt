@@ -3,7 +3,7 @@ use Rattle.mpl_ast.specs.declared.token.TokenKind.TheVariants as kind
 use Rattle.mpl_trees.specs.Expressions.{primary_at, take_expression, take_primary, take_unary}
 use Rattle.mpl_trees.specs.Rows.{more_pieces}
 use Rattle.mpl_trees.specs.Taking.{ahead, more_of}
-use Rattle.mpl_expressions.specs.Reader.{most_number, rest_of}
+use Rattle.mpl_reader.specs.Reader.{most_number, rest_of}
 use Rattle.mpl_expressions.proofs.Alike.{took_alike}
 use Rattle.mpl_expressions.proofs.Turns.{behind, end-of, end-piece, last-of, last-piece, next-of, next-piece}
 use Rattle.mpl_expressions.proofs.operand.+expression.Goals as goal

@@ -2,7 +2,7 @@ use Rattle.std.proofs.Common.{◌≡◌, ◌+◌, ◌-◌, ◌*◌, ◌≤◌}
 use Rattle.mpl_trees.specs.Expressions.{take_expression, take_unary}
 use Rattle.mpl_trees.specs.Rows.{more_pieces, take_pieces}
 use Rattle.mpl_trees.specs.Taking.{more_of, some_of}
-use Rattle.mpl_expressions.specs.Reader.{most_number, rest_of}
+use Rattle.mpl_reader.specs.Reader.{most_number, rest_of}
 use Rattle.mpl_expressions.proofs.Turns.{behind}
 use Rattle.mpl_expressions.proofs.operand.+expression.Given as goal
 

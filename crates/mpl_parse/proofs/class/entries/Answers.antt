@@ -1,7 +1,7 @@
 use Rattle.std.proofs.Common.{◌-◌, ◌+◌, length, ap, sym, ◌∙◌, arith}
 use Rattle.mpl_trees.specs.Programs.{take_entry}
 use Rattle.mpl_trees.specs.Taking.{all_of}
-use Rattle.mpl_expressions.specs.Reader.{most_number, rest_of}
+use Rattle.mpl_reader.specs.Reader.{most_number, rest_of}
 use Rattle.mpl_expressions.proofs.Turns.{behind, end-all, last-all, next-all}
 use Rattle.mpl_parse.proofs.class.entries.Goals as goal
 

@@ -2,7 +2,7 @@ use Rattle.std.proofs.Common.{◌-◌, ◌+◌, length, ap, sym, ◌∙◌, arit
 use Rattle.std.proofs.lemmas.Result.{err_from_is_err_and}
 use Rattle.mpl_trees.specs.Programs.{take_field_name}
 use Rattle.mpl_trees.specs.Taking.{more_of}
-use Rattle.mpl_expressions.specs.Reader.{most_number, rest_of}
+use Rattle.mpl_reader.specs.Reader.{most_number, rest_of}
 use Rattle.mpl_expressions.proofs.Turns.{behind, end-of, last-of, next-of, stuck-of}
 use Rattle.mpl_parse.proofs.class.field_names.Goals as goal
 

@@ -1,6 +1,6 @@
 use Rattle.std.proofs.Common.{◌-◌, ◌+◌, ap, sym, ◌∙◌, arith}
 use Rattle.mpl_trees.specs.Programs.{take_declarations}
-use Rattle.mpl_expressions.specs.Reader.{most_number, rest_of}
+use Rattle.mpl_reader.specs.Reader.{most_number, rest_of}
 use Rattle.mpl_expressions.proofs.Turns.{behind}
 use Rattle.mpl_parse.proofs.Declarations.{next-declaration}
 use Rattle.mpl_parse.proofs.declaration.declarations.Goals as goal

@@ -1,7 +1,7 @@
 use Rattle.std.proofs.Common.{◌≡◌, ◌-◌}
 use Rattle.mpl_trees.specs.Programs.{take_item}
 use Rattle.mpl_trees.specs.Taking.{all_of}
-use Rattle.mpl_expressions.specs.Reader.{most_number, rest_of}
+use Rattle.mpl_reader.specs.Reader.{most_number, rest_of}
 use Rattle.mpl_expressions.proofs.Turns.{behind}
 use Rattle.mpl_parse.proofs.declaration.items.Given as goal
 

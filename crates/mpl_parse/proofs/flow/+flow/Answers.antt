@@ -2,7 +2,7 @@ use Rattle.std.proofs.Common.{◌≡◌, suc, ◌-◌, ◌+◌, length, ap, sym,
 use Rattle.std.proofs.lemmas.Result.{err_from_is_err_and}
 use Rattle.mpl_trees.specs.Flows.{flow_of, take_flow}
 use Rattle.mpl_trees.specs.Taking.{more_of}
-use Rattle.mpl_expressions.specs.Reader.{most_number, rest_of}
+use Rattle.mpl_reader.specs.Reader.{most_number, rest_of}
 use Rattle.mpl_expressions.proofs.Alike.{took_alike}
 use Rattle.mpl_expressions.proofs.Turns.{behind, end-of, last-of, next-of, stuck-of}
 use Rattle.mpl_parse.proofs.Depths.{flow-is}

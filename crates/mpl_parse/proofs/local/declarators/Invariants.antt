@@ -2,7 +2,7 @@ use Rattle.std.proofs.Common.{◌≡◌, ◌-◌}
 use Rattle.mpl_trees.specs.Flows.{take_flow}
 use Rattle.mpl_trees.specs.Locals.{take_declarator}
 use Rattle.mpl_trees.specs.Taking.{more_of, some_of}
-use Rattle.mpl_expressions.specs.Reader.{most_number, rest_of}
+use Rattle.mpl_reader.specs.Reader.{most_number, rest_of}
 use Rattle.mpl_expressions.proofs.Turns.{behind}
 use Rattle.mpl_parse.proofs.local.declarators.Given as goal
 

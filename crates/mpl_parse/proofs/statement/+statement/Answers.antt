@@ -1,7 +1,7 @@
 use Rattle.std.proofs.Common.{◌≡◌, suc, ◌-◌, ◌+◌, length, ap, sym, ◌∙◌, arith}
 use Rattle.mpl_trees.specs.Statements.{take_statement}
 use Rattle.mpl_trees.specs.Taking.{all_of}
-use Rattle.mpl_expressions.specs.Reader.{most_number, rest_of}
+use Rattle.mpl_reader.specs.Reader.{most_number, rest_of}
 use Rattle.mpl_expressions.proofs.Alike.{took_alike}
 use Rattle.mpl_expressions.proofs.Turns.{behind, end-all, last-all, next-all}
 use Rattle.mpl_parse.specs.Internal.Forms.{statement_of}

@@ -3,17 +3,17 @@
 ghost use Rattle.std.specs.Prelude.{◌≡◌, suc, [], ◌∷◌, ◌++◌, OnOk, OnErr, Err};
 ghost use Rattle.mpl_trees.specs.Folds as spec;
 ghost use Rattle.mpl_trees.specs.Taking as taking;
-ghost use Rattle.mpl_expressions.specs.Reader.{most_number};
-ghost use Rattle.mpl_expressions.specs.Internal.Row.{Folded, IsInner, IsOpening, Whole, level_at, row_of};
+ghost use Rattle.mpl_reader.specs.Reader.{most_number};
+ghost use Rattle.mpl_folds.specs.Row.{Folded, IsInner, IsOpening, Whole, level_at, row_of};
 
-use crate::ahead::level_of;
-use crate::stop::Stop;
 use mpl_ast::expression::{
     Conjunction, Equality, EqualityOperator, Expression, Relation, RelationOperator, Sum,
     SumOperator, Term, TermOperator, Unary,
 };
 use mpl_ast::token::Mark;
 use mpl_ast::{At, Span};
+use mpl_reader::Stop;
+use mpl_reader::ahead::level_of;
 use mpl_trees::piece::{Piece, Sign, Sole, Start};
 use sqlite_items::Boxed;
 use std::alloc::Global;
@@ -22,7 +22,7 @@ use std::collections::VecDeque;
 /// What is left of a row, and where its last operand that was taken ends.
 #[derive(Drop)]
 pub struct Row {
-    pieces: VecDeque<Piece>,
+    pub pieces: VecDeque<Piece>,
     last: u32,
 }
 
@@ -62,7 +62,7 @@ pub trait Grade {
         line: u32,
         left: Boxed<Self::Tree>,
         operator: Self::Operator,
-        right: Self::Part,
+        right: Boxed<Self::Part>,
     ) -> Self::Tree
         ensures { result ≡ grade.more at line left operator right };
 }
@@ -219,6 +219,7 @@ fn joined<G: Grade>(
     };
     let right = G::part(alloc, opening.start, row)?;
     let left = Boxed::new(alloc, left)?;
+    let right = Boxed::new(alloc, right)?;
     Ok(G::more(row.finish(start), opening.sign.line, left, operator, right))
 }
 
@@ -272,7 +273,13 @@ impl Grade for Terms {
         Term::OneUnary(at, part)
     }
 
-    fn more(at: At, line: u32, left: Boxed<Term>, operator: TermOperator, right: Unary) -> Term
+    fn more(
+        at: At,
+        line: u32,
+        left: Boxed<Term>,
+        operator: TermOperator,
+        right: Boxed<Unary>,
+    ) -> Term
         ensures { result ≡ spec.terms.more at line left operator right }
     {
         Term::Multiply(at, line, left, operator, right)
@@ -308,7 +315,7 @@ impl Grade for Sums {
         Sum::OneTerm(at, part)
     }
 
-    fn more(at: At, line: u32, left: Boxed<Sum>, operator: SumOperator, right: Term) -> Sum
+    fn more(at: At, line: u32, left: Boxed<Sum>, operator: SumOperator, right: Boxed<Term>) -> Sum
         ensures { result ≡ spec.sums.more at line left operator right }
     {
         Sum::Add(at, line, left, operator, right)
@@ -351,7 +358,7 @@ impl Grade for Relations {
         line: u32,
         left: Boxed<Relation>,
         operator: RelationOperator,
-        right: Sum,
+        right: Boxed<Sum>,
     ) -> Relation
         ensures { result ≡ spec.relations.more at line left operator right }
     {
@@ -393,7 +400,7 @@ impl Grade for Equalities {
         line: u32,
         left: Boxed<Equality>,
         operator: EqualityOperator,
-        right: Relation,
+        right: Boxed<Relation>,
     ) -> Equality
         ensures { result ≡ spec.equalities.more at line left operator right }
     {
@@ -434,7 +441,7 @@ impl Grade for Conjunctions {
         line: u32,
         left: Boxed<Conjunction>,
         _operator: Sole,
-        right: Equality,
+        right: Boxed<Equality>,
     ) -> Conjunction
         ensures { result ≡ spec.conjunctions.more at line left _operator right }
     {
@@ -475,7 +482,7 @@ impl Grade for Disjunctions {
         line: u32,
         left: Boxed<Expression>,
         _operator: Sole,
-        right: Conjunction,
+        right: Boxed<Conjunction>,
     ) -> Expression
         ensures { result ≡ spec.expressions.more at line left _operator right }
     {

@@ -3,9 +3,11 @@ use Rattle.std.specs.Prelude.{◌≡◌, ℕ, List, Option, Some, None, Result, 
 use Rattle.mpl_mean.specs.Text.Reading.{Reads, Rest}
 use Rattle.mpl_trees.specs.Taking.{Takes, fitting, inside, start_of}
 use Rattle.mpl_trees.specs.declared.piece.Start.{Start}
-use Rattle.mpl_expressions.specs.declared.reader.Reader.{Reader}
-use Rattle.mpl_expressions.specs.declared.stop.Stop.{Stop}
-use Rattle.mpl_expressions.specs.declared.stop.Stop.TheVariants.{Stuck}
+use Rattle.mpl_trees.specs.Rows.{take_joint}
+use Rattle.mpl_reader.specs.declared.reader.Joint.{Joint}
+use Rattle.mpl_reader.specs.declared.reader.Reader.{Reader}
+use Rattle.mpl_reader.specs.declared.stop.Stop.{Stop}
+use Rattle.mpl_reader.specs.declared.stop.Stop.TheVariants.{Stuck}
 
 abbrev pub rest_of : Reader → Rest
 rest_of r = record { tokens = r.left.now; last = r.last; next = r.next }
@@ -28,3 +30,8 @@ Skipped read before (Err e) after = e ≡ Stuck → read before ≡ None
 abbrev pub Began : Rest → Result Start Stop → Rest → Type 0
 Began before (Ok start) after = (start ≡ start_of before) × (fitting most_number (inside before) ≡ Some after)
 Began before (Err e) after = e ≡ Stuck → fitting most_number (inside before) ≡ None
+
+-- an operator was taken
+abbrev pub TookJoint : Rest → Option Joint → Rest → Type 0
+TookJoint before (Some j) after = take_joint before ≡ Some (record { sign = j.sign; level = j.level; rest = after })
+TookJoint before None after = (take_joint before ≡ None) × (after ≡ before)

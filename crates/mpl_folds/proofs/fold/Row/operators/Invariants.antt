@@ -1,6 +1,6 @@
 use Rattle.std.proofs.Common.{◌≡◌, ◌+◌, ◌≤◌, drop}
 use Rattle.mpl_trees.specs.Folds.{count_pieces, operators_in}
-use Rattle.mpl_expressions.proofs.fold.Row.operators.Given as goal
+use Rattle.mpl_folds.proofs.fold.Row.operators.Given as goal
 
 abbrev pub invariant-loop-at : goal.invariant-loop-at
 invariant-loop-at l = record {

@@ -4,7 +4,7 @@ use Rattle.std.proofs.lemmas.Bool.Decides.{nat_tests}
 use Rattle.mpl_mean.specs.Text.Reading.{Rest}
 use Rattle.mpl_trees.specs.Taking.{fitting, inner}
 use Rattle.mpl_trees.specs.declared.piece.Start.{Start}
-use Rattle.mpl_expressions.specs.Reader.{most_number}
+use Rattle.mpl_reader.specs.Reader.{most_number}
 
 within : (n : _) → n < 2 ^ 32 → nat_le n most_number ≡ true
 unfolding most_number

@@ -1,5 +1,5 @@
 use Rattle.std.proofs.Common.{◌*◌, ◌+◌}
-use Rattle.mpl_expressions.proofs.fold.+chain.Given as goal
+use Rattle.mpl_folds.proofs.fold.+chain.Given as goal
 
 abbrev pub decreases-chain : goal.decreases-chain
 decreases-chain g l = 2 * l.operators

@@ -4,7 +4,7 @@ use Rattle.std.proofs.lemmas.Bool.Decides.{nat_tests}
 use Rattle.mpl_trees.specs.Ahead.{tally}
 use Rattle.mpl_trees.specs.Folds.{count_pieces}
 use Rattle.mpl_trees.specs.declared.piece.Piece.{Piece}
-use Rattle.mpl_expressions.specs.Internal.Row.{level_at}
+use Rattle.mpl_folds.specs.Row.{level_at}
 
 counted : (level : ℕ) (ps : List Piece) (i : ℕ) → count_pieces level (drop i ps) ≡ tally level (level_at ps i) (count_pieces level (drop (suc i) ps))
 counted level [] zero = refl

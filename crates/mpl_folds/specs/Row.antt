@@ -4,17 +4,15 @@ use Rattle.std.specs.Option.{option_and_then}
 use Rattle.mpl_ast.specs.declared.expression.Expression.{Expression}
 use Rattle.mpl_trees.specs.Folds as folds
 use Rattle.mpl_trees.specs.Folds.{Folds, sign_level}
-use Rattle.mpl_trees.specs.Rows.{take_joint}
 use Rattle.mpl_trees.specs.Taking.{Takes, inner}
 use Rattle.mpl_mean.specs.Text.Reading.{Rest}
 use Rattle.mpl_trees.specs.declared.piece.Piece.{Piece}
 use Rattle.mpl_trees.specs.declared.piece.Start.{Start}
-use Rattle.mpl_expressions.specs.Reader.{most_number}
-use Rattle.mpl_expressions.specs.declared.fold.Opening.{Opening}
-use Rattle.mpl_expressions.specs.declared.fold.Row.{Row}
-use Rattle.mpl_expressions.specs.declared.reader.Joint.{Joint}
-use Rattle.mpl_expressions.specs.declared.stop.Stop.{Stop}
-use Rattle.mpl_expressions.specs.declared.stop.Stop.TheVariants.{Stuck}
+use Rattle.mpl_reader.specs.Reader.{most_number}
+use Rattle.mpl_folds.specs.declared.fold.Opening.{Opening}
+use Rattle.mpl_folds.specs.declared.fold.Row.{Row}
+use Rattle.mpl_reader.specs.declared.stop.Stop.{Stop}
+use Rattle.mpl_reader.specs.declared.stop.Stop.TheVariants.{Stuck}
 
 abbrev pub row_of : Row → folds.Row
 row_of r = record { pieces = r.pieces.items; last = r.last }
@@ -52,8 +50,3 @@ level_at pieces at = level_of_piece (slice_get pieces at)
 abbrev pub TookRow : Takes (List Piece) → Rest → Result Row Stop → Rest → Type 0
 TookRow take before (Ok row) after = take most_number before ≡ Some (row.pieces.items, after)
 TookRow take before (Err e) after = e ≡ Stuck → take most_number before ≡ None
-
--- an operator was taken
-abbrev pub TookJoint : Rest → Option Joint → Rest → Type 0
-TookJoint before (Some j) after = take_joint before ≡ Some (record { sign = j.sign; level = j.level; rest = after })
-TookJoint before None after = (take_joint before ≡ None) × (after ≡ before)

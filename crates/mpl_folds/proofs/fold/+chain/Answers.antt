@@ -1,8 +1,8 @@
 use Rattle.std.proofs.Common.{◌≡◌, ℕ, suc, ◌-◌, subst, arith}
 use Rattle.mpl_trees.specs.Folds.{chain}
-use Rattle.mpl_expressions.specs.Reader.{most_number}
-use Rattle.mpl_expressions.specs.Internal.Row.{Folded, row_of}
-use Rattle.mpl_expressions.proofs.fold.+chain.Goals as goal
+use Rattle.mpl_reader.specs.Reader.{most_number}
+use Rattle.mpl_folds.specs.Row.{Folded, row_of}
+use Rattle.mpl_folds.proofs.fold.+chain.Goals as goal
 
 pub chain-returns-else-operators-eq0 : goal.chain-returns-else-operators-eq0
 chain-returns-else-operators-eq0 g t c =

@@ -1,9 +1,9 @@
 use Rattle.std.proofs.Common.{◌≡◌, ℕ, ◌+◌, ◌<◌, Option, Some, None, drop, ap, sym, ◌∙◌, arith}
 use Rattle.mpl_trees.specs.Ahead.{tally}
 use Rattle.mpl_trees.specs.Folds.{count_pieces}
-use Rattle.mpl_expressions.proofs.Pieces.{counted_at, tally-above, tally-below, tally-here}
-use Rattle.mpl_expressions.proofs.fold.Row.operators.Goals as goal
-use Rattle.mpl_expressions.proofs.fold.Row.operators.Goals.{then-other-level-2, else-other-level-2}
+use Rattle.mpl_folds.proofs.Pieces.{counted_at, tally-above, tally-below, tally-here}
+use Rattle.mpl_folds.proofs.fold.Row.operators.Goals as goal
+use Rattle.mpl_folds.proofs.fold.Row.operators.Goals.{then-other-level-2, else-other-level-2}
 
 pub returns-in_default : goal.returns-in_default
 returns-in_default c =

@@ -1,8 +1,7 @@
 ghost use Rattle.std.specs.Prelude.{◌≡◌, ◌+◌, ◌<◌, ◌∷◌, length, IfOk, OnOk, Err};
 ghost use Rattle.mpl_mean.specs.Text.Reading as reading;
 ghost use Rattle.mpl_trees.specs.Taking as spec;
-ghost use Rattle.mpl_expressions.specs.Reader.{Began, Skipped, Took, most_number, rest_of};
-ghost use Rattle.mpl_expressions.specs.Internal.Row.{TookJoint};
+ghost use Rattle.mpl_reader.specs.Reader.{Began, Skipped, Took, TookJoint, most_number, rest_of};
 
 use crate::ahead::{level_of, sees_keyword, sees_mark};
 use crate::stop::Stop;

@@ -11,7 +11,7 @@ pub enum Stop {
 
 impl From<NoMemory> for Stop {
     ghost use Rattle.std.specs.Prelude.{◌≡◌};
-    ghost use Rattle.mpl_expressions.specs.declared.stop.Stop.TheVariants.{NoMemory};
+    ghost use Rattle.mpl_reader.specs.declared.stop.Stop.TheVariants.{NoMemory};
 
     ghost from_gives = { λ _ e. e ≡ NoMemory };
 
@@ -22,7 +22,7 @@ impl From<NoMemory> for Stop {
 
 impl From<AllocError> for Stop {
     ghost use Rattle.std.specs.Prelude.{◌≡◌};
-    ghost use Rattle.mpl_expressions.specs.declared.stop.Stop.TheVariants.{NoMemory};
+    ghost use Rattle.mpl_reader.specs.declared.stop.Stop.TheVariants.{NoMemory};
 
     ghost from_gives = { λ _ e. e ≡ NoMemory };
 
@@ -33,7 +33,7 @@ impl From<AllocError> for Stop {
 
 impl<T: Drop> From<AllocFailed<T>> for Stop {
     ghost use Rattle.std.specs.Prelude.{◌≡◌};
-    ghost use Rattle.mpl_expressions.specs.declared.stop.Stop.TheVariants.{NoMemory};
+    ghost use Rattle.mpl_reader.specs.declared.stop.Stop.TheVariants.{NoMemory};
 
     ghost from_gives = { λ _ e. e ≡ NoMemory };
 

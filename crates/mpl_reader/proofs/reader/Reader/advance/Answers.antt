@@ -1,6 +1,6 @@
 use Rattle.std.proofs.Common.{◌≡◌, ◌+◌, arith}
-use Rattle.mpl_expressions.proofs.Numbers.{fits, too_great}
-use Rattle.mpl_expressions.proofs.reader.Reader.advance.Goals as goal
+use Rattle.mpl_reader.proofs.Numbers.{fits, too_great}
+use Rattle.mpl_reader.proofs.reader.Reader.advance.Goals as goal
 
 pub returns-in_default : goal.returns-in_default
 returns-in_default c = λ _. too_great _ (let h = c.in_default.ensures in omega arith)
