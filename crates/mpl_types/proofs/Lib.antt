@@ -1,12 +1,8 @@
-mod BodyLemmas
-mod Lists
-mod NameLemmas
-mod ScopeLemmas
-mod TypedBodies
-mod TypedCalls
-mod TypedMembers
-mod TypedNodes
-mod TypedOutline
-mod TypedPrograms
-mod TypedScopes
-mod TypedStatements
+pub mod ArgumentLemmas
+pub mod ExpressionLemmas
+pub mod LeastLemmas
+pub mod OutlineLemmas
+pub mod StatementLemmas
+pub mod ProgramLemmas
+pub mod LoopLemmas
+pub mod ScopeLemmas

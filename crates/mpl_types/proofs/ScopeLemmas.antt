@@ -1,37 +1,40 @@
--- A table of variables after a change.
-use Rattle.std.proofs.Common.{◌≡◌, ℕ, Bool, true, false, List, Option, Some, None, cond, is_some, not, if◌then◌else◌, option_map, refl, ap, sym, ◌∙◌}
-use Rattle.std.proofs.Math.Path.{fun_ext}
-use Rattle.std.proofs.lemmas.Map.Text.{btree_map_updates_str}
-use Rattle.std.specs.BTreeMap.{UpdatesBy, get_by}
-use Rattle.std.specs.Cmp.Lexicographic.{slice_cmp}
-use Rattle.std.specs.Ordering.{nat_cmp}
-use Rattle.std.specs.Str.{bytes_eq}
-use Rattle.mpl_types.specs.Internal.Scope.{Scope, declare, with_variable}
-use Rattle.mpl_types.specs.Internal.Variables.{kind_of, seen}
-use Rattle.mpl_types.specs.declared.scope.Variable.{Variable}
-use Rattle.mpl_types.specs.declared.scope.Variables.{Variables}
+-- What surrounds a block stays, and what fails in it.
+use Rattle.std.proofs.Common.{◌≡◌, Option, Some, None, refl, sym, ap, ap₂, ◌∙◌}
+use Rattle.std.specs.Prelude.{option_map}
+use Rattle.mpl_ast.specs.declared.flow.Assignment.{Assignment}
+use Rattle.mpl_mean.specs.TypeRules.Expr.{Expr}
+use Rattle.mpl_mean.specs.TypeRules.Rules.{Failure}
+use Rattle.mpl_mean.specs.TypeRules.Scopes.{Environment, in_block}
+use Rattle.mpl_mean.specs.TypeRules.StatementNodes.{stmts_walk}
+use Rattle.mpl_mean.specs.TypeRules.Stmt.{Loops, Stmt, Stmts, assigns, if_any}
+use Rattle.mpl_scope.specs.Locals.{outer}
+use Rattle.mpl_types.specs.Internal.Least.{earlier}
+use Rattle.mpl_types.specs.Internal.Statements.{after, stmt_least, test_least}
+use Rattle.mpl_types.proofs.StatementLemmas.{stmt_outer, stmts_outer}
 
-chosen : {A B : Type 0} (f : A → B) (b : Bool) (x y : Option A) → option_map f (cond b x y) ≡ cond b (option_map f x) (option_map f y)
-chosen f true x y = refl
-chosen f false x y = refl
+pub within_scope : (s : Stmt) (environment entered behind left : Environment) → entered ≡ in_block environment → behind ≡ after s entered → left ≡ outer behind → left ≡ environment
+within_scope s environment entered behind left a b c = c ∙ ap outer (b ∙ ap (after s) a) ∙ stmt_outer s (in_block environment)
 
-pub seen_with : (old new : Variables) (name : List ℕ) (v : Variable)
-    → UpdatesBy (λ x y. slice_cmp nat_cmp x.now y.now) (λ k. slice_cmp nat_cmp name k.now) old.table new.table (Some v)
-    → seen new ≡ with_variable name (kind_of v) (seen old)
-seen_with old new name v updates = fun_ext (λ q.
-    ap (option_map kind_of) (btree_map_updates_str name old.table new.table (Some v) updates q)
-    ∙ chosen kind_of (bytes_eq name q) (Some v) (get_by (λ k. slice_cmp nat_cmp q k.now) old.table))
+pub block_scope : (ss : Stmts) (environment entered behind left : Environment) → entered ≡ in_block environment → behind ≡ (stmts_walk ss entered).after → left ≡ outer behind
+    → left ≡ environment
+block_scope ss environment entered behind left a b c = c ∙ ap outer (b ∙ ap (λ (e : Environment). (stmts_walk ss e).after) a) ∙ stmts_outer ss (in_block environment)
 
-chosen_declared : (o : Option Variable) (x : Scope) (b : Bool) → is_some o ≡ not b → (if is_some (option_map kind_of o) then None else Some x) ≡ (if b then Some x else None)
-chosen_declared None x true h = refl
-chosen_declared None x false h = absurd cc
-chosen_declared (Some v) x true h = absurd cc
-chosen_declared (Some v) x false h = refl
+abbrev pub step_of : Option Assignment → Stmt
+step_of step = if_any (option_map assigns step)
 
-pub declared : (old new : Variables) (name : List ℕ) (v : Variable) (o : Option Variable) (b : Bool)
-    → o ≡ get_by (λ k. slice_cmp nat_cmp name k.now) old.table → is_some o ≡ not b → seen new ≡ with_variable name (kind_of v) (seen old)
-    → declare name (kind_of v) (seen old) ≡ (if b then Some (seen new) else None)
-declared old new name v o b is none with =
-    ap (λ found. if is_some (option_map kind_of found) then None else Some (with_variable name (kind_of v) (seen old))) (sym is)
-    ∙ chosen_declared o (with_variable name (kind_of v) (seen old)) b none
-    ∙ ap (λ (x : Scope). if b then Some x else None) (sym with)
+pub outer_of_block : (environment : Environment) → outer (in_block environment) ≡ environment
+outer_of_block environment = refl
+
+pub step_after : (step : Option Assignment) (environment : Environment) → after (step_of step) environment ≡ environment
+step_after None environment = refl
+step_after (Some step) environment = refl
+
+pub for_is : (start : Stmt) (test : Expr) (step : Option Assignment) (body : Stmt) (environment entered begun : Environment) (a b c d : Option Failure)
+    → entered ≡ in_block environment → begun ≡ after start entered → a ≡ stmt_least start entered → b ≡ test_least test begun → c ≡ stmt_least (step_of step) begun → d ≡ stmt_least body (in_block begun)
+    → earlier a (earlier b (earlier c d)) ≡ stmt_least (Loops start test (step_of step) body) environment
+for_is start test step body environment entered begun a b c d e f of_start of_test of_step of_body =
+    let same : begun ≡ after start (in_block environment) = f ∙ ap (after start) e in
+    ap₂ earlier (of_start ∙ ap (stmt_least start) e)
+    (ap₂ earlier (of_test ∙ ap (test_least test) same)
+    (ap₂ earlier (of_step ∙ ap (stmt_least (step_of step)) same)
+    (of_body ∙ ap (λ (x : Environment). stmt_least body (in_block x)) (same ∙ sym (step_after step (after start (in_block environment)))))))

@@ -1,6 +1,9 @@
 -- What private functions say of their results. No public contract cites it.
-pub mod Bodies
-pub mod Outline
-pub mod Scope
-pub mod Typed
-pub mod Variables
+pub mod Arguments
+pub mod Expressions
+pub mod Least
+pub mod Outlines
+pub mod Programs
+pub mod Seen
+pub mod SeenBefore
+pub mod Statements

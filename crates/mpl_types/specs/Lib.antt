@@ -1,1 +1,3 @@
+pub mod Checkable
+pub mod Checked
 pub mod Internal

@@ -1,218 +1,221 @@
-//! The bodies of `main` and of members.
+//! What is inside the bodies of functions and members, and inside guards.
 
-ghost use Rattle.std.specs.Prelude.{◌≡◌, Some, None, IfOk, filter, length, if◌then◌else◌};
-ghost use Rattle.std.specs.List.{list_all};
-ghost use Rattle.mpl_ast.specs.declared.statement.Statement.{out-Statement};
-ghost use Rattle.mpl_types.specs.Internal.Bodies.{behind, behind_declarator, behind_local, bodies_fit, declares_number, main_fits, member_body_fits, result_fits, statements_fit};
-ghost use Rattle.mpl_types.specs.Internal.Scope.{no_variable};
-ghost use Rattle.mpl_types.specs.Internal.Variables.{seen};
+ghost use Rattle.std.specs.Prelude.{◌≡◌, [], flat_map, IfOk};
+ghost use Rattle.mpl_ast.specs.declared.class.Entry.{Entry};
+ghost use Rattle.mpl_mean.specs.TypeRules.Expr.{expr_of};
+ghost use Rattle.mpl_mean.specs.TypeRules.ProgramNodes as nodes;
+ghost use Rattle.mpl_mean.specs.TypeRules.Scopes as scopes;
+ghost use Rattle.mpl_mean.specs.TypeRules.Types as types;
+ghost use Rattle.mpl_mean.specs.TypeRules.Typing.{member_of};
+ghost use Rattle.mpl_mean.specs.TypeRules.Stmt.{stmts_of};
+ghost use Rattle.mpl_types.specs.Internal.Programs.{guard_least, insides_least, routine_least};
+ghost use Rattle.mpl_types.specs.Internal.Seen.{failure_of};
+ghost use Rattle.mpl_scope.specs.SeenScope.{seen_body, seen_if_any, seen_scope};
 
-use crate::calls::{flow_fits, value_fits};
-use crate::lookup::{formals_of, items_of_type};
-use crate::scope::{Variable, Variables};
-use crate::uses::expressions_fit;
-use mpl_ast::class::Item;
+use crate::expressions::check_expression;
+use crate::failure::{Failure, earlier, noted};
+use crate::statements::check_statements;
+use mpl_ast::class::{Entry, Formal, Item};
+use mpl_ast::expression::Expression;
 use mpl_ast::program::Declaration;
-use mpl_ast::statement::{Declarator, Local, Statement, TypeName};
+use mpl_ast::statement::{Block, TypeName};
+use mpl_scope::kinds::Class;
+use mpl_scope::members::formals_of;
+use mpl_scope::names::Names;
+use mpl_scope::outline::{Outline, is_regular};
+use mpl_scope::scope::{Body, Scope, is_main};
+use mpl_scope::sizes::sum;
+use mpl_scope::types::{ValueType, agree};
+use mpl_scope::words::{words_of_formals, words_of_statements};
 use mpl_value::NoMemory;
 use std::alloc::Global;
 
-/// The most numbers that a body may declare.
-const MOST_NUMBERS: usize = 1024;
+/// The most words of all formals and locals of one body together.
+const MOST_WORDS: u64 = 1024;
 
-/// The bodies of a declaration.
-pub fn bodies_fit(
+/// The beginning of a body.
+fn scope_of<'a>(
     alloc: Global,
-    declarations: &[Declaration],
-    declaration: &Declaration,
-) -> Result<bool, NoMemory>
-    ensures { IfOk result (λ fits. fits ≡ bodies_fit declarations.now declaration.now) }
+    outline: &'a Outline<'a>,
+    class: Option<&'a Class<'a>>,
+    body: Body<'a>,
+    formals: &'a [Formal],
+) -> Result<Scope<'a>, NoMemory>
+    ensures { IfOk result (λ scope. seen_scope scope ≡ scopes.in_body (seen_body body.entry) (types.declared_formals formals.now)
+        (record { declarations = outline.now; class = seen_if_any class.entry; body = scopes.NoBody; formals = []; blocks = [] })) }
 {
-    match declaration {
-        Declaration::Class(_, _, _, _, items) => members_fit(alloc, items.as_slice()),
-        Declaration::Function(_, _, _, _, body) => {
-            main_fits(alloc, declarations, body.statements.as_slice())
-        }
-        Declaration::Struct(..) => Ok(false),
+    let formals = Names::of_formals(alloc, formals)?;
+    let mut blocks = Vec::new(alloc);
+    blocks.push(Names::new(alloc))?;
+    Ok(Scope {
+        outline,
+        class,
+        body,
+        formals,
+        blocks,
+    })
+}
+
+/// The body of a function or member, which begins at this byte.
+fn check_routine<'a>(
+    alloc: Global,
+    at: u32,
+    outline: &'a Outline<'a>,
+    class: Option<&'a Class<'a>>,
+    body: Body<'a>,
+    formals: &'a [Formal],
+    block: &'a Block,
+) -> Result<Option<Failure>, NoMemory>
+    ensures { IfOk result (λ failure. failure_of failure ≡ routine_least at
+        (scopes.in_body (seen_body body.entry) (types.declared_formals formals.now)
+        (record { declarations = outline.now; class = seen_if_any class.entry; body = scopes.NoBody; formals = []; blocks = [] }))
+        formals.now (stmts_of block.now)) }
+{
+    let mut scope = scope_of(alloc, outline, class, body, formals)?;
+    let statements = block.statements.as_slice();
+    let words = sum(
+        words_of_formals(outline, scope.formals.list()),
+        words_of_statements(outline, statements),
+    );
+    let of_statements = check_statements(alloc, &mut scope, statements)?;
+    Ok(noted(at, 7, words <= MOST_WORDS, of_statements))
+}
+
+fn check_guard<'a>(scope: &Scope<'a>, test: &'a Expression) -> Option<Failure>
+    ensures { failure_of result ≡ guard_least (seen_scope scope.now) (expr_of test.now) }
+{
+    let test = check_expression(scope, test);
+    let is_guard = agree(Some(ValueType::Bool), test.value) && test.fits_guard;
+    noted(test.at, 11, is_guard, test.failure)
+}
+
+/// The formals of the member that is accepted, where there is one.
+fn accepted_formals<'a>(class: &'a Class<'a>, name: &'a [u8]) -> &'a [Formal]
+    ensures { result.now ≡ nodes.accepted_formals (member_of name.now class.now.items) }
+{
+    match class.member(name) {
+        Some(member) => member.formals,
+        None => &[],
     }
 }
 
-// ---- members
-
-fn members_fit(alloc: Global, items: &[Item]) -> Result<bool, NoMemory>
-    ensures { IfOk result (λ fits. fits ≡ list_all member_body_fits items.now) }
+fn check_entry<'a>(
+    alloc: Global,
+    outline: &'a Outline<'a>,
+    class: &'a Class<'a>,
+    entry: &'a Entry,
+) -> Result<Option<Failure>, NoMemory>
+    ensures { IfOk result (λ failure. failure_of failure ≡ insides_least (nodes.guards_of_entry (scopes.in_class class.now (scopes.at_top outline.now)) class.now.items entry.now.member entry.now.guard)) }
 {
-    for item in items {
-        if !member_fits(alloc, item)? {
-            return Ok(false);
+    match &entry.guard {
+        Some(test) => {
+            let formals = accepted_formals(class, entry.member.text.as_slice());
+            let scope = scope_of(alloc, outline, Some(class), Body::Guard, formals)?;
+            Ok(earlier(check_guard(&scope, test), None))
         }
+        None => Ok(None),
     }
-    Ok(true)
 }
 
-fn member_fits(alloc: Global, item: &Item) -> Result<bool, NoMemory>
-    ensures { IfOk result (λ fits. fits ≡ member_body_fits item.now) }
+#[tactic(auto, using(std::proofs::lemmas::Grind::common_steps, crate::proofs::LeastLemmas::earlier_assoc, crate::proofs::LeastLemmas::earlier_none, crate::proofs::LoopLemmas::insides_append))]
+fn check_entries<'a>(
+    alloc: Global,
+    outline: &'a Outline<'a>,
+    class: &'a Class<'a>,
+    entries: &'a [Entry],
+) -> Result<Option<Failure>, NoMemory>
+    ensures { IfOk result (λ failure. failure_of failure ≡ insides_least (flat_map (λ (entry : Entry). nodes.guards_of_entry (scopes.in_class class.now (scopes.at_top outline.now)) class.now.items entry.member entry.guard) entries.now)) }
+{
+    let mut found = None;
+    for entry in entries {
+        found = earlier(found, check_entry(alloc, outline, class, entry)?);
+    }
+    Ok(found)
+}
+
+fn check_inside_item<'a>(
+    alloc: Global,
+    outline: &'a Outline<'a>,
+    class: &'a Class<'a>,
+    item: &'a Item,
+) -> Result<Option<Failure>, NoMemory>
+    ensures { IfOk result (λ failure. failure_of failure ≡ insides_least (nodes.inside_item (scopes.in_class class.now (scopes.at_top outline.now)) class.now.items item.now)) }
 {
     match item {
-        Item::Member(_, _, _, formals, body) => {
-            let variables = Variables::of_formals(alloc, formals_of(formals))?;
-            Ok(results_fit(&variables, body.statements.as_slice()))
+        Item::Member(at, declared, _, formals, block) => {
+            let formals = formals_of(formals);
+            let body = Body::Member(declared);
+            let class = Some(class);
+            let found = check_routine(alloc, at.span.from, outline, class, body, formals, block)?;
+            Ok(earlier(found, None))
         }
-        Item::OfField(..)
-        | Item::Select(..)
-        | Item::Public(..)
-        | Item::Private(..)
-        | Item::Empty(..) => Ok(false),
+        Item::Select(_, _, entries) => check_entries(alloc, outline, class, entries.as_slice()),
+        Item::OfField(..) | Item::Public(_) | Item::Private(_) | Item::Empty(_) => Ok(None),
     }
 }
 
-fn results_fit(variables: &Variables, statements: &[Statement]) -> bool
-    ensures { result ≡ list_all (λ s. result_fits (seen variables.now) (out-Statement s)) statements.now }
-{
-    for statement in statements {
-        if !result_fits(variables, statement) {
-            return false;
-        }
-    }
-    true
-}
-
-fn result_fits(variables: &Variables, statement: &Statement) -> bool
-    ensures { result ≡ result_fits (seen variables.now) (out-Statement statement.now) }
-{
-    match statement {
-        Statement::Rtf(_, value) => flow_fits(variables, value),
-        Statement::OfBlock(..)
-        | Statement::Declare(..)
-        | Statement::Assign(..)
-        | Statement::CallAlone(..)
-        | Statement::Create(..)
-        | Statement::If(..)
-        | Statement::While(..)
-        | Statement::For(..)
-        | Statement::Print(..)
-        | Statement::Return(..)
-        | Statement::Empty(..) => false,
-    }
-}
-
-// ---- main
-
-fn main_fits(
+#[tactic(auto, using(std::proofs::lemmas::Grind::common_steps, crate::proofs::LeastLemmas::earlier_assoc, crate::proofs::LeastLemmas::earlier_none, crate::proofs::LoopLemmas::insides_append))]
+fn check_inside_class<'a>(
     alloc: Global,
-    declarations: &[Declaration],
-    statements: &[Statement],
-) -> Result<bool, NoMemory>
-    ensures { IfOk result (λ fits. fits ≡ main_fits declarations.now statements.now) }
+    outline: &'a Outline<'a>,
+    class: &'a Class<'a>,
+    items: &'a [Item],
+) -> Result<Option<Failure>, NoMemory>
+    ensures { IfOk result (λ failure. failure_of failure ≡ insides_least (flat_map (nodes.inside_item (scopes.in_class class.now (scopes.at_top outline.now)) class.now.items) items.now)) }
 {
-    let fits = statements_fit(alloc, declarations, statements)?;
-    Ok(fits && numbers(statements) <= MOST_NUMBERS)
-}
-
-/// How many statements declare a number.
-fn numbers(statements: &[Statement]) -> usize
-    ensures { result ≡ length (filter (λ s. declares_number (out-Statement s)) statements.now) }
-{
-    let mut numbers = 0;
-    for statement in statements {
-        if declares_number(statement) {
-            numbers += 1;
-        }
+    let mut found = None;
+    for item in items {
+        found = earlier(found, check_inside_item(alloc, outline, class, item)?);
     }
-    numbers
+    Ok(found)
 }
 
-fn declares_number(statement: &Statement) -> bool
-    ensures { result ≡ declares_number (out-Statement statement.now) }
+fn function_body<'a>(name: &[u8], declared: &'a TypeName) -> Body<'a>
+    ensures { seen_body result ≡ nodes.function_body name.now declared.now }
 {
-    match statement {
-        Statement::Declare(_, local) => matches!(local.type_name, TypeName::Int(..)),
-        Statement::OfBlock(..)
-        | Statement::Assign(..)
-        | Statement::CallAlone(..)
-        | Statement::Create(..)
-        | Statement::If(..)
-        | Statement::While(..)
-        | Statement::For(..)
-        | Statement::Print(..)
-        | Statement::Rtf(..)
-        | Statement::Return(..)
-        | Statement::Empty(..) => false,
+    if is_main(name) {
+        Body::Main
+    } else {
+        Body::Function(declared)
     }
 }
 
-fn statements_fit(
+fn check_inside<'a>(
     alloc: Global,
-    declarations: &[Declaration],
-    statements: &[Statement],
-) -> Result<bool, NoMemory>
-    ensures { IfOk result (λ fits. fits ≡ statements_fit declarations.now (Some no_variable) statements.now) }
+    outline: &'a Outline<'a>,
+    declaration: &'a Declaration,
+) -> Result<Option<Failure>, NoMemory>
+    ensures { IfOk result (λ failure. failure_of failure ≡ insides_least (nodes.inside_declaration (scopes.at_top outline.now) declaration.now)) }
 {
-    let mut variables = Variables::new(alloc);
-    for statement in statements {
-        if !statement_fits(declarations, &mut variables, statement)? {
-            return Ok(false);
+    match declaration {
+        Declaration::Struct(..) => Ok(None),
+        Declaration::Class(_, _, kind, name, items) => {
+            let items = items.as_slice();
+            let class = Class::of(alloc, name.text.as_slice(), is_regular(kind), items)?;
+            let found = check_inside_class(alloc, outline, &class, items)?;
+            Ok(found)
+        }
+        Declaration::Function(at, declared, name, formals, block) => {
+            let formals = formals_of(formals);
+            let body = function_body(name.text.as_slice(), declared);
+            let found = check_routine(alloc, at.span.from, outline, None, body, formals, block)?;
+            Ok(earlier(found, None))
         }
     }
-    Ok(true)
 }
 
-/// A statement; what it declares is in scope behind it.
-fn statement_fits<'a>(
+/// The bodies and guards of all declarations.
+#[tactic(auto, using(std::proofs::lemmas::Grind::common_steps, crate::proofs::LeastLemmas::earlier_assoc, crate::proofs::LeastLemmas::earlier_none, crate::proofs::LoopLemmas::insides_append))]
+pub fn check_insides<'a>(
+    alloc: Global,
+    outline: &'a Outline<'a>,
     declarations: &'a [Declaration],
-    variables: &mut Variables<'a>,
-    statement: &'a Statement,
-) -> Result<bool, NoMemory>
-    ensures { IfOk result (λ fits. behind declarations.now (out-Statement statement.now) (seen variables.old) ≡ (if fits then Some (seen variables.new) else None)) }
+) -> Result<Option<Failure>, NoMemory>
+    ensures { IfOk result (λ failure. failure_of failure ≡ insides_least (flat_map (nodes.inside_declaration (scopes.at_top outline.now)) declarations.now)) }
 {
-    match statement {
-        Statement::Declare(_, local) => local_fits(declarations, variables, local),
-        Statement::Print(_, arguments) => Ok(expressions_fit(variables, arguments.as_slice())),
-        Statement::OfBlock(..)
-        | Statement::Assign(..)
-        | Statement::CallAlone(..)
-        | Statement::Create(..)
-        | Statement::If(..)
-        | Statement::While(..)
-        | Statement::For(..)
-        | Statement::Rtf(..)
-        | Statement::Return(..)
-        | Statement::Empty(..) => Ok(false),
+    let mut found = None;
+    for declaration in declarations {
+        found = earlier(found, check_inside(alloc, outline, declaration)?);
     }
-}
-
-fn local_fits<'a>(
-    declarations: &'a [Declaration],
-    variables: &mut Variables<'a>,
-    local: &'a Local,
-) -> Result<bool, NoMemory>
-    ensures { IfOk result (λ fits. behind_local declarations.now local.now.type_name local.now.declarators (seen variables.old) ≡ (if fits then Some (seen variables.new) else None)) }
-{
-    let declarators = local.declarators.as_slice();
-    if declarators.len() != 1 {
-        return Ok(false);
-    }
-    declarator_fits(declarations, variables, &local.type_name, &declarators[0])
-}
-
-fn declarator_fits<'a>(
-    declarations: &'a [Declaration],
-    variables: &mut Variables<'a>,
-    type_name: &TypeName,
-    declarator: &'a Declarator,
-) -> Result<bool, NoMemory>
-    ensures { IfOk result (λ fits. behind_declarator declarations.now type_name.now declarator.now (seen variables.old) ≡ (if fits then Some (seen variables.new) else None)) }
-{
-    match declarator {
-        Declarator::Plain(_, name, _) => match items_of_type(declarations, type_name) {
-            Some(items) => variables.declare(name.text.as_slice(), Variable::Object(items)),
-            None => Ok(false),
-        },
-        Declarator::Initialized(_, name, value) => {
-            if !value_fits(variables, value) {
-                return Ok(false);
-            }
-            variables.declare(name.text.as_slice(), Variable::Number)
-        }
-    }
+    Ok(found)
 }

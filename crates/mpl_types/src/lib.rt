@@ -1,12 +1,20 @@
-//! The type rules of the programs of the first form.
+//! The type rules: the least failure in a program, or none.
 #![tactic(auto)]
 
+mod arguments;
 mod bodies;
 mod calls;
-mod check;
-mod lookup;
-mod outline;
-mod scope;
-mod uses;
+mod classes;
+mod declarations;
+mod expressions;
+mod failure;
+mod fault;
+mod fields;
+mod locals;
+mod outlines;
+mod places;
+mod programs;
+mod statements;
 
-pub use check::is_typed;
+pub use fault::TypeFault;
+pub use programs::{check, is_typed};

@@ -1,0 +1,11 @@
+use Rattle.std.proofs.Common.{◌≡◌, ◌≤◌, ◌+◌, drop}
+use Rattle.mpl_mean.specs.Meaning.Layout.{words_of_fields}
+use Rattle.mpl_scope.specs.Words.{told}
+use Rattle.mpl_scope.proofs.sizes.words_of_fields.Given as goal
+
+-- those so far and those that are left are all
+abbrev pub invariant-loop-field : goal.invariant-loop-field
+invariant-loop-field l = record {
+  few : l.words ≤ 1025;
+  all : told (l.words + words_of_fields (drop l.field-index l.fields)) ≡ told (words_of_fields l.fields);
+}

@@ -1,0 +1,9 @@
+pub mod First
+pub mod Locals
+pub mod SeenDeclared
+pub mod SeenMembers
+pub mod SeenOutline
+pub mod SeenScope
+pub mod SeenShapes
+pub mod SeenTypes
+pub mod Words

@@ -1,0 +1,11 @@
+use Rattle.std.proofs.Common.{arith, length}
+use Rattle.mpl_mean.specs.TypeRules.Expr.{expr_of}
+use Rattle.mpl_mean.specs.TypeRules.Typing.{formal_types}
+use Rattle.mpl_scope.specs.SeenScope.{seen_scope}
+use Rattle.mpl_types.proofs.ArgumentLemmas.{agree_at_end, as_many_types}
+use Rattle.mpl_types.proofs.expressions.+expression.Goals as goal
+
+pub check_arguments-returns-clause-agrees : goal.check_arguments-returns-clause-agrees
+check_arguments-returns-clause-agrees t c =
+    agree_at_end expr_of (seen_scope c.args.scope.now) c.args.arguments.now (formal_types c.args.scope.now.outline.now c.args.formals.now) c.loop-i.i (length c.args.formals.now)
+    (omega arith) c.loop-i.so_far c.all_agree.result (as_many_types c.args.scope.now.outline.now c.args.formals.now) c.all_agree.ensures c.loop-i.invariant
