@@ -1,0 +1,4 @@
+pub mod DigitLemmas
+pub mod OneAnswer
+pub mod ReadLemmas
+pub mod WordLemmas
