@@ -1,5 +1,5 @@
 -- How a run that ended answers.
-use Rattle.std.proofs.Common.{◌≡◌, ℕ, List, inl, inr, sym, ◌∙◌, subst}
+use Rattle.std.proofs.Common.{◌≡◌, ℕ, List, inl, inr, sym, subst}
 use Rattle.mpl_value.specs.declared.body.Yield.{Yield}
 use Rattle.mentat_cmd.specs.declared.status.Status.{Status}
 use Rattle.mentat_cmd.specs.declared.status.Status.TheVariants as status

@@ -1,19 +1,22 @@
 -- Of one source there is one exact answer.
-use Rattle.std.proofs.Common.{◌≡◌, ◌≤◌, ◌<◌, ℕ, List, [], Option, Result, true, Ok, Err, Some, refl, sym, ap, subst, ◌∙◌, arith}
-use Rattle.std.specs.Prelude.{length}
+use Rattle.std.proofs.Common.{◌≡◌, ◌≤◌, ◌<◌, ℕ, List, [], Option, Result, true, Ok, Err, Some, refl, sym, ap, subst, true≢false, ◌∙◌, arith}
+use Rattle.std.specs.Prelude.{length, ◌∷◌}
 use Rattle.mpl_ast.specs.declared.program.Program.{Program}
 use Rattle.mpl_ast.specs.declared.token.Token.{Token}
 use Rattle.mpl_value.specs.declared.body.BodyEnd.{BodyEnd}
 use Rattle.mpl_value.specs.declared.body.BodyEnd.TheVariants as end
 use Rattle.mpl_value.specs.declared.body.Yield.{Yield}
+use Rattle.mpl_mean.specs.Accepted.{IsAccepted}
+use Rattle.mpl_mean.specs.FirstForms.FirstForm.{is_first_form}
 use Rattle.mpl_mean.specs.Limits.{most_source_bytes, usual_budget}
 use Rattle.mpl_mean.specs.Meaning.DirectRun.{direct_run}
 use Rattle.mpl_mean.specs.Text.Lexemes.{LexicalFault, BadByte, OpenComment, WideNumber, tokens_of}
 use Rattle.mpl_mean.specs.Text.ParseFaults.{HasLightProgram, IsSyntaxFault, IsTooDeep}
 use Rattle.mpl_mean.specs.Text.ProgramText.{spells}
+use Rattle.mpl_mean.specs.TypeRules.Rules.{Failure, failures, is_empty, is_typed, least, least_failure}
 use Rattle.mentat_io.specs.Shelf.{Files}
 use Rattle.mentat_cmd.specs.Answer.{IsCause, IsExact, IsRead}
-use Rattle.mentat_cmd.specs.Program.{HasTree, IsBuilt, IsRefused, IsUnbuilt, Runs}
+use Rattle.mentat_cmd.specs.Program.{IsBuilt, IsIllTyped, IsRefused, IsUnbuilt, Runs}
 use Rattle.mentat_cmd.specs.declared.status.Refusal.{Refusal}
 use Rattle.mentat_cmd.specs.declared.status.Refusal.TheVariants as refusal
 use Rattle.mentat_cmd.specs.declared.status.Status.{Status}
@@ -44,21 +47,22 @@ some_same r x y e f = cc
 
 -- ---- programs and runs
 
-pub one_program : OneTree → (source : List ℕ) (p q : Program) → IsBuilt source p → IsBuilt source q → p ≡ q
-one_program one_tree source p q b c =
-    let same : b.accepted.tokens ≡ c.accepted.tokens = ok_same (tokens_of source) b.accepted.tokens c.accepted.tokens b.accepted.lexed c.accepted.lexed in
-    one_tree p q c.accepted.tokens (subst (λ (ts : List Token). spells p ts ≡ true) same b.accepted.spelled) c.accepted.spelled
+pub one_program : OneTree → (source : List ℕ) (p q : Program) → IsAccepted source p → IsAccepted source q → p ≡ q
+one_program one_tree source p q a b =
+    let same : a.tokens ≡ b.tokens = ok_same (tokens_of source) a.tokens b.tokens a.lexed b.lexed in
+    one_tree p q b.tokens (subst (λ (ts : List Token). spells p ts ≡ true) same a.spelled) b.spelled
 
 one_run : OneTree → (source : List ℕ) (y z : Yield) → Runs source y → Runs source z → y ≡ z
 one_run one_tree source y z r s =
-    r.yield ∙ ap (λ (p : Program). direct_run p [] usual_budget) (one_program one_tree source r.program s.program r.source_is s.source_is) ∙ sym s.yield
+    r.yield
+    ∙ ap (λ (p : Program). direct_run p [] usual_budget) (one_program one_tree source r.program s.program r.source_is.accepted s.source_is.accepted)
+    ∙ sym s.yield
 
-built_tree : (source : List ℕ) (p : Program) → IsBuilt source p → HasTree source
-built_tree source p b = record {
-  tokens = b.accepted.tokens;
-  lexed = b.accepted.lexed;
-  light = record { program = p; spelled = b.accepted.spelled; light = b.accepted.light };
-}
+-- a program of the first form is of no other
+not_unbuilt : OneTree → (source : List ℕ) (p : Program) → IsBuilt source p → IsUnbuilt source → ⊥
+not_unbuilt one_tree source p b u =
+    let same : p ≡ u.program = one_program one_tree source p u.program b.accepted u.accepted in
+    true≢false (sym (subst (λ (q : Program). is_first_form q ≡ true) same b.first) ∙ u.unbuilt)
 
 -- ---- refusals
 
@@ -67,11 +71,12 @@ lexical_refusal BadByte at = refusal.BadByte at
 lexical_refusal WideNumber at = refusal.WideNumber at
 lexical_refusal OpenComment at = refusal.OpenComment at
 
--- a refusal of tokens that aren't there, or of those that are
+-- a refusal of tokens that aren't there, of those that are, or of their program
 data Refused (source : List ℕ) (r : Refusal) : Type 0 where
   lexical : (f : LexicalFault) (at : ℕ) → tokens_of source ≡ Err (f, at) → r ≡ lexical_refusal f at → Refused source r
   syntactic : (ts : List Token) (at : ℕ) → tokens_of source ≡ Ok ts → IsSyntaxFault ts (length source) at → r ≡ refusal.Syntax at → Refused source r
   deep : (ts : List Token) (at : ℕ) → tokens_of source ≡ Ok ts → IsTooDeep ts at → r ≡ refusal.TooDeep at → Refused source r
+  ill : (rule at : ℕ) → IsIllTyped source rule at → r ≡ refusal.Rule rule at → Refused source r
 
 refused : (source : List ℕ) (r : Refusal) → IsRefused source r → Refused source r
 refused source (refusal.BadByte at) e = lexical BadByte at e refl
@@ -79,36 +84,82 @@ refused source (refusal.WideNumber at) e = lexical WideNumber at e refl
 refused source (refusal.OpenComment at) e = lexical OpenComment at e refl
 refused source (refusal.Syntax at) f = syntactic f.tokens at f.lexed f.fault refl
 refused source (refusal.TooDeep at) f = deep f.tokens at f.lexed f.fault refl
+refused source (refusal.Rule rule at) f = ill rule at f refl
+
+-- the tokens of an ill typed program
+ill_light : (source : List ℕ) (rule at : ℕ) → (f : IsIllTyped source rule at) → HasLightProgram f.tokens
+ill_light source rule at f = record { program = f.program; spelled = f.spelled; light = f.light }
+
+light_of : (source : List ℕ) (p : Program) → (a : IsAccepted source p) → HasLightProgram a.tokens
+light_of source p a = record { program = p; spelled = a.spelled; light = a.light }
+
+-- tokens with a syntax fault, or too deep, are those of no light program
+no_syntax_at : OneFault → (source : List ℕ) (ts us : List Token) (at : ℕ) → tokens_of source ≡ Ok ts → tokens_of source ≡ Ok us → HasLightProgram us → IsSyntaxFault ts (length source) at → ⊥
+no_syntax_at one source ts us at e h light f =
+    one.no_syntax ts (length source) at (subst HasLightProgram (ok_same (tokens_of source) us ts h e) light) f
+
+no_depth_at : OneFault → (source : List ℕ) (ts us : List Token) (at : ℕ) → tokens_of source ≡ Ok ts → tokens_of source ≡ Ok us → HasLightProgram us → IsTooDeep ts at → ⊥
+no_depth_at one source ts us at e h light f =
+    one.no_depth ts at (subst HasLightProgram (ok_same (tokens_of source) us ts h e) light) f
+
+-- of one source there is one least failure
+one_failure : OneTree → (source : List ℕ) (rule at other place : ℕ) → IsIllTyped source rule at → IsIllTyped source other place → refusal.Rule rule at ≡ refusal.Rule other place
+one_failure one_tree source rule at other place f g =
+    let tokens : f.tokens ≡ g.tokens = ok_same (tokens_of source) f.tokens g.tokens f.lexed g.lexed in
+    let program : f.program ≡ g.program =
+    one_tree f.program g.program g.tokens (subst (λ (ts : List Token). spells f.program ts ≡ true) tokens f.spelled) g.spelled in
+    let failure : ◌≡◌ {A = Failure} (record { at = at; rule = rule }) (record { at = place; rule = other }) =
+    some_same (least_failure g.program) _ _ (subst (λ (p : Program). least_failure p ≡ Some (record { at = at; rule = rule })) program f.fails) g.fails in
+    ap (λ (x : Failure). refusal.Rule x.rule x.at) failure
+
+-- where a rule fails, some do
+some_fail : (fs : List Failure) (f : Failure) → least fs ≡ Some f → is_empty fs ≡ true → ⊥
+some_fail [] f e t = cc
+some_fail (g ∷ fs) f e t = cc
+
+-- an accepted program is not ill typed
+well_typed : OneTree → (source : List ℕ) (p : Program) (rule at : ℕ) → IsAccepted source p → IsIllTyped source rule at → ⊥
+well_typed one_tree source p rule at a f =
+    let tokens : a.tokens ≡ f.tokens = ok_same (tokens_of source) a.tokens f.tokens a.lexed f.lexed in
+    let program : p ≡ f.program =
+    one_tree p f.program f.tokens (subst (λ (ts : List Token). spells p ts ≡ true) tokens a.spelled) f.spelled in
+    some_fail (failures f.program) (record { at = at; rule = rule }) f.fails (subst (λ (q : Program). is_typed q ≡ true) program a.typed)
 
 lexical_same : (f g : LexicalFault) (a b : ℕ) (r q : Refusal) → ◌≡◌ {A = LexicalFault × ℕ} (f, a) (g, b) → r ≡ lexical_refusal f a → q ≡ lexical_refusal g b → r ≡ q
 lexical_same f g a b r q e i j = i ∙ ap (λ (p : LexicalFault × ℕ). lexical_refusal p.0 p.1) e ∙ sym j
 
-one_refusal : OneFault → (source : List ℕ) (r q : Refusal) → Refused source r → Refused source q → r ≡ q
-one_refusal one source r q (lexical f a e i) (lexical g b h j) = lexical_same f g a b r q (err_same (tokens_of source) (f, a) (g, b) e h) i j
-one_refusal one source r q (lexical f a e i) (syntactic us b h k j) = absurd (not_both_of (tokens_of source) (f, a) us e h)
-one_refusal one source r q (lexical f a e i) (deep us b h k j) = absurd (not_both_of (tokens_of source) (f, a) us e h)
-one_refusal one source r q (syntactic ts a e f i) (lexical g b h j) = absurd (not_both_of (tokens_of source) (g, b) ts h e)
-one_refusal one source r q (syntactic ts a e f i) (syntactic us b h k j) =
+one_refusal : OneTree → OneFault → (source : List ℕ) (r q : Refusal) → Refused source r → Refused source q → r ≡ q
+one_refusal tree one source r q (lexical f a e i) (lexical g b h j) = lexical_same f g a b r q (err_same (tokens_of source) (f, a) (g, b) e h) i j
+one_refusal tree one source r q (lexical f a e i) (syntactic us b h k j) = absurd (not_both_of (tokens_of source) (f, a) us e h)
+one_refusal tree one source r q (lexical f a e i) (deep us b h k j) = absurd (not_both_of (tokens_of source) (f, a) us e h)
+one_refusal tree one source r q (lexical f a e i) (ill n b k j) = absurd (not_both_of (tokens_of source) (f, a) k.tokens e k.lexed)
+one_refusal tree one source r q (syntactic ts a e f i) (lexical g b h j) = absurd (not_both_of (tokens_of source) (g, b) ts h e)
+one_refusal tree one source r q (syntactic ts a e f i) (syntactic us b h k j) =
     let same : ts ≡ us = ok_same (tokens_of source) ts us e h in
     i ∙ ap refusal.Syntax (one.syntax us (length source) a b (subst (λ vs. IsSyntaxFault vs (length source) a) same f) k) ∙ sym j
-one_refusal one source r q (syntactic ts a e f i) (deep us b h k j) =
+one_refusal tree one source r q (syntactic ts a e f i) (deep us b h k j) =
     let same : ts ≡ us = ok_same (tokens_of source) ts us e h in
     absurd (one.not_both us (length source) a b (subst (λ vs. IsSyntaxFault vs (length source) a) same f) k)
-one_refusal one source r q (deep ts a e f i) (lexical g b h j) = absurd (not_both_of (tokens_of source) (g, b) ts h e)
-one_refusal one source r q (deep ts a e f i) (syntactic us b h k j) =
+one_refusal tree one source r q (syntactic ts a e f i) (ill n b k j) = absurd (no_syntax_at one source ts k.tokens a e k.lexed (ill_light source n b k) f)
+one_refusal tree one source r q (deep ts a e f i) (lexical g b h j) = absurd (not_both_of (tokens_of source) (g, b) ts h e)
+one_refusal tree one source r q (deep ts a e f i) (syntactic us b h k j) =
     let same : us ≡ ts = ok_same (tokens_of source) us ts h e in
     absurd (one.not_both ts (length source) b a (subst (λ vs. IsSyntaxFault vs (length source) b) same k) f)
-one_refusal one source r q (deep ts a e f i) (deep us b h k j) =
+one_refusal tree one source r q (deep ts a e f i) (deep us b h k j) =
     let same : ts ≡ us = ok_same (tokens_of source) ts us e h in
     i ∙ ap refusal.TooDeep (one.depth us a b (subst (λ vs. IsTooDeep vs a) same f) k) ∙ sym j
+one_refusal tree one source r q (deep ts a e f i) (ill n b k j) = absurd (no_depth_at one source ts k.tokens a e k.lexed (ill_light source n b k) f)
+one_refusal tree one source r q (ill m a f i) (lexical g b h j) = absurd (not_both_of (tokens_of source) (g, b) f.tokens h f.lexed)
+one_refusal tree one source r q (ill m a f i) (syntactic us b h k j) = absurd (no_syntax_at one source us f.tokens b h f.lexed (ill_light source m a f) k)
+one_refusal tree one source r q (ill m a f i) (deep us b h k j) = absurd (no_depth_at one source us f.tokens b h f.lexed (ill_light source m a f) k)
+one_refusal tree one source r q (ill m a f i) (ill n b k j) = i ∙ one_failure tree source m a n b f k ∙ sym j
 
--- a source with a program is not refused
-not_refused : OneFault → (source : List ℕ) (r : Refusal) → Refused source r → HasTree source → ⊥
-not_refused one source r (lexical f at e i) tree = not_both_of (tokens_of source) (f, at) tree.tokens e tree.lexed
-not_refused one source r (syntactic ts at e f i) tree =
-    one.no_syntax ts (length source) at (subst HasLightProgram (ok_same (tokens_of source) tree.tokens ts tree.lexed e) tree.light) f
-not_refused one source r (deep ts at e f i) tree =
-    one.no_depth ts at (subst HasLightProgram (ok_same (tokens_of source) tree.tokens ts tree.lexed e) tree.light) f
+-- an accepted source is not refused
+not_refused : OneTree → OneFault → (source : List ℕ) (r : Refusal) (p : Program) → Refused source r → IsAccepted source p → ⊥
+not_refused tree one source r p (lexical f at e i) a = not_both_of (tokens_of source) (f, at) a.tokens e a.lexed
+not_refused tree one source r p (syntactic ts at e f i) a = no_syntax_at one source ts a.tokens at e a.lexed (light_of source p a) f
+not_refused tree one source r p (deep ts at e f i) a = no_depth_at one source ts a.tokens at e a.lexed (light_of source p a) f
+not_refused tree one source r p (ill rule at f i) a = well_typed tree source p rule at a f
 
 -- ---- answers
 
@@ -119,7 +170,7 @@ status_of (end.Trap trap) = status.Trap trap
 status_of end.Waits = status.Stuck
 status_of end.Spent = status.Spent
 
--- a source is too long, is refused, has no program that runs, or runs
+-- a source is too long, is refused, is of a form that doesn't run, or runs
 data Found (source : List ℕ) (s : Status) (turns : ℕ) : Type 0 where
   long : most_source_bytes < length source → s ≡ status.TooLong → turns ≡ 0 → Found source s turns
   wrong : length source ≤ most_source_bytes → (r : Refusal) → Refused source r → s ≡ status.Refused r → turns ≡ 0 → Found source s turns
@@ -148,16 +199,16 @@ one_answer tree one source s t m n (long h is zero) (wrong k r w js also) = absu
 one_answer tree one source s t m n (long h is zero) (none k lacks js also) = absurd (too_short source h k)
 one_answer tree one source s t m n (long h is zero) (ran y r js takes) = absurd (too_short source h r.source_is.accepted.short)
 one_answer tree one source s t m n (wrong h r w is zero) (long k js also) = absurd (too_short source k h)
-one_answer tree one source s t m n (wrong h r w is zero) (wrong k q v js also) = (is ∙ ap status.Refused (one_refusal one source r q w v) ∙ sym js, zero ∙ sym also)
-one_answer tree one source s t m n (wrong h r w is zero) (none k lacks js also) = absurd (not_refused one source r w lacks.tree)
-one_answer tree one source s t m n (wrong h q w is zero) (ran y r js takes) = absurd (not_refused one source q w (built_tree source r.program r.source_is))
+one_answer tree one source s t m n (wrong h r w is zero) (wrong k q v js also) = (is ∙ ap status.Refused (one_refusal tree one source r q w v) ∙ sym js, zero ∙ sym also)
+one_answer tree one source s t m n (wrong h r w is zero) (none k lacks js also) = absurd (not_refused tree one source r lacks.program w lacks.accepted)
+one_answer tree one source s t m n (wrong h q w is zero) (ran y r js takes) = absurd (not_refused tree one source q r.program w r.source_is.accepted)
 one_answer tree one source s t m n (none h lacks is zero) (long k js also) = absurd (too_short source k h)
-one_answer tree one source s t m n (none h lacks is zero) (wrong k r w js also) = absurd (not_refused one source r w lacks.tree)
+one_answer tree one source s t m n (none h lacks is zero) (wrong k r w js also) = absurd (not_refused tree one source r lacks.program w lacks.accepted)
 one_answer tree one source s t m n (none h lacks is zero) (none k lacking js also) = (is ∙ sym js, zero ∙ sym also)
-one_answer tree one source s t m n (none h lacks is zero) (ran y r js takes) = absurd (lacks.unbuilt r.program r.source_is)
+one_answer tree one source s t m n (none h lacks is zero) (ran y r js takes) = absurd (not_unbuilt tree source r.program r.source_is lacks)
 one_answer tree one source s t m n (ran y r is takes) (long k js also) = absurd (too_short source k r.source_is.accepted.short)
-one_answer tree one source s t m n (ran y r is takes) (wrong k q w js also) = absurd (not_refused one source q w (built_tree source r.program r.source_is))
-one_answer tree one source s t m n (ran y r is takes) (none k lacking js also) = absurd (lacking.unbuilt r.program r.source_is)
+one_answer tree one source s t m n (ran y r is takes) (wrong k q w js also) = absurd (not_refused tree one source q r.program w r.source_is.accepted)
+one_answer tree one source s t m n (ran y r is takes) (none k lacking js also) = absurd (not_unbuilt tree source r.program r.source_is lacking)
 one_answer tree one source s t m n (ran y r is takes) (ran z q js also) =
     let same : y ≡ z = one_run tree source y z r q in
     (is ∙ ap (λ (w : Yield). status_of w.end) same ∙ sym js, takes ∙ ap (λ (w : Yield). w.turns) same ∙ sym also)

@@ -6,7 +6,7 @@ use Rattle.mpl_value.specs.declared.known.TrapKind.TheVariants.{Overflow, DivZer
 use Rattle.mentat_cmd.specs.declared.message.Message.{Message}
 use Rattle.mentat_cmd.specs.declared.message.Message.TheVariants.{Fixed, Made}
 use Rattle.mentat_cmd.specs.declared.status.Refusal.{Refusal}
-use Rattle.mentat_cmd.specs.declared.status.Refusal.TheVariants.{BadByte, WideNumber, OpenComment, Syntax, TooDeep}
+use Rattle.mentat_cmd.specs.declared.status.Refusal.TheVariants.{BadByte, WideNumber, OpenComment, Syntax, TooDeep, Rule}
 use Rattle.mentat_cmd.specs.declared.status.Status.{Status}
 use Rattle.mentat_cmd.specs.declared.status.Status.TheVariants as status
 
@@ -28,6 +28,7 @@ refusal_message (WideNumber at) = refused (codes "WideNumber") at
 refusal_message (OpenComment at) = refused (codes "OpenComment") at
 refusal_message (Syntax at) = refused (codes "Syntax") at
 refusal_message (TooDeep at) = refused (codes "TooDeep") at
+refusal_message (Rule rule at) = refused (codes "rule " ++ decimal rule) at
 
 abbrev pub trap_message : Trap → List ℕ
 trap_message trap = codes "mentat: trap " ++ (kind_name trap.kind ++ (codes " at line " ++ (decimal trap.line ++ 10 ∷ [])))

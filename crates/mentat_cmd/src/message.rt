@@ -67,12 +67,20 @@ fn kind_name(kind: TrapKind) -> &'static str
 fn refused(alloc: Global, refusal: Refusal) -> Result<String, NoMemory>
     ensures { IfOk result (λ text. string_bytes text ≡ spec.refusal_message refusal) }
 {
-    let (fault, at) = match refusal {
-        Refusal::BadByte(at) => ("BadByte", at),
-        Refusal::WideNumber(at) => ("WideNumber", at),
-        Refusal::OpenComment(at) => ("OpenComment", at),
-        Refusal::Syntax(at) => ("Syntax", at),
-        Refusal::TooDeep(at) => ("TooDeep", at),
-    };
+    match refusal {
+        Refusal::BadByte(at) => refused_by(alloc, "BadByte", at),
+        Refusal::WideNumber(at) => refused_by(alloc, "WideNumber", at),
+        Refusal::OpenComment(at) => refused_by(alloc, "OpenComment", at),
+        Refusal::Syntax(at) => refused_by(alloc, "Syntax", at),
+        Refusal::TooDeep(at) => refused_by(alloc, "TooDeep", at),
+        Refusal::Rule(rule, at) => {
+            Ok(format!(in alloc; "mentat: refused rule {rule} at byte {at}\n")?)
+        }
+    }
+}
+
+fn refused_by(alloc: Global, fault: &str, at: u32) -> Result<String, NoMemory>
+    ensures { IfOk result (λ text. string_bytes text ≡ spec.refused fault.now at) }
+{
     Ok(format!(in alloc; "mentat: refused {fault} at byte {at}\n")?)
 }

@@ -1,4 +1,5 @@
 ghost use Rattle.std.specs.Prelude.{◌≡◌, ◌+◌, ◌≤◌, [], length, true, List, ℕ, Ok, Err, IfOk, IfErr};
+ghost use Rattle.mpl_mean.specs.Accepted.{IsAccepted};
 ghost use Rattle.mpl_mean.specs.Limits.{most_source_bytes, most_tokens, usual_budget};
 ghost use Rattle.mpl_mean.specs.Meaning.DirectRun.{main_start};
 ghost use Rattle.mpl_mean.specs.Text.Lexemes.{tokens_of};
@@ -14,8 +15,7 @@ use mpl_first_form::is_first_form;
 use mpl_lexer::{LexFault, lex};
 use mpl_mean::{Typed, tokens_are_few};
 use mpl_parse::{ParseFault, parse};
-use mpl_trees::tokens_have_one_program;
-use mpl_types::is_typed;
+use mpl_types::{TypeFault, check};
 use mpl_value::{BodyStart, NoMemory, Replies, Words, Yield};
 use mpl_walk::walk;
 use std::alloc::Global;
@@ -26,9 +26,9 @@ pub const BUDGET: u64 = 1_000_000;
 /// Why a source didn't run.
 #[derive(Clone, Copy, Debug, PartialEq, Eq)]
 pub enum Rejection {
-    /// No program has this source.
+    /// The source is not accepted.
     Refused(Refusal),
-    /// The program isn't of the first form, or a type rule fails in it.
+    /// The program isn't of the first form.
     Unbuilt,
     NoMemory,
 }
@@ -49,22 +49,31 @@ pub fn run(alloc: Global, source: &[u8]) -> Result<Yield, Rejection>
     ensures ran { Ran source.now result }
     ensures spent { IfOk result (λ y. y.end ≡ Spent → y.turns ≡ usual_budget + 1) }
 {
-    let tokens = tokens_of(alloc, source)?;
-    tokens_are_few();
-    let program = program_of(alloc, &tokens)?;
-    tokens_have_one_program();
-    if !is_first_form(&program) {
+    let typed = accept(alloc, source)?;
+    if !is_first_form(typed.program()) {
         return Err(Rejection::Unbuilt);
     }
-    if !is_typed(alloc, &program)? {
-        return Err(Rejection::Unbuilt);
-    }
-    let typed = Typed::of(program);
     let start = start_of_main(alloc);
     let replies = Replies::new(alloc);
     match walk(alloc, &typed, &start, &replies, BUDGET) {
         Ok(done) => Ok(done),
         Err(NoMemory) => Err(Rejection::NoMemory),
+    }
+}
+
+// The program that a source is accepted as, or why it isn't.
+fn accept(alloc: Global, source: &[u8]) -> Result<Typed, Rejection>
+    requires { length source.now ≤ most_source_bytes }
+    ensures accepted { IfOk result (IsAccepted source.now) }
+    ensures fault { IfErr result (λ e. Ran source.now (Err e)) }
+{
+    let tokens = tokens_of(alloc, source)?;
+    tokens_are_few();
+    let program = program_of(alloc, &tokens)?;
+    match check(alloc, program) {
+        Ok(typed) => Ok(typed),
+        Err(TypeFault::Rule { rule, at }) => Err(Rejection::Refused(Refusal::Rule(rule, at))),
+        Err(TypeFault::NoMemory) => Err(Rejection::NoMemory),
     }
 }
 

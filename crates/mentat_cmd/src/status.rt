@@ -2,7 +2,7 @@ ghost use Rattle.std.specs.Prelude.{◌≡◌};
 
 use mpl_value::Trap;
 
-/// Why a source has no program, and the first byte at which that shows.
+/// Why a source is no program that is accepted, and the first byte at which that shows.
 #[derive(Clone, Copy, Debug, PartialEq, Eq)]
 pub enum Refusal {
     /// No token begins at the byte.
@@ -15,6 +15,8 @@ pub enum Refusal {
     Syntax(u32),
     /// Too many constructs are open at the token there.
     TooDeep(u32),
+    /// The type rule of this number fails at what begins there.
+    Rule(u32, u32),
 }
 
 /// How a command ends.
@@ -23,7 +25,7 @@ pub enum Status {
     Done,
     /// The words are not of the form of a command.
     Usage,
-    /// The file holds no program.
+    /// The file holds no program that is accepted.
     Refused(Refusal),
     /// `main` ended with this trap.
     Trap(Trap),
@@ -38,7 +40,7 @@ pub enum Status {
     NoMemory,
     /// The file is above its limit.
     TooLong,
-    /// The file holds a program that doesn't run yet, or one in which a type rule fails.
+    /// The file holds a program that doesn't run yet.
     Unbuilt(u64),
 }
 

@@ -1,4 +1,4 @@
-use Rattle.std.proofs.Common.{inl, refl, sym}
+use Rattle.std.proofs.Common.{inl, refl}
 use Rattle.mentat_cmd.proofs.command.finish.Goals as goal
 
 pub returns-in-Spent-clause-ends : goal.returns-in-Spent-clause-ends
