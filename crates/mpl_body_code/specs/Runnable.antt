@@ -1,0 +1,23 @@
+-- Numbers in code that are small enough to be counted on from a place.
+use Rattle.std.specs.Prelude.{ℕ, ◌^◌, ◌&&◌, Bool, true, nat_lt, List, length}
+use Rattle.std.specs.List.{list_all}
+use Rattle.mpl_body_code.specs.declared.instruction.Instruction.{Instruction}
+use Rattle.mpl_body_code.specs.declared.instruction.Instruction.TheVariants as instruction
+
+abbrev pub is_small : ℕ → Bool
+is_small n = nat_lt n (2 ^ 62)
+
+abbrev pub is_counted : ℕ → Bool
+is_counted n = nat_lt n (2 ^ 63)
+
+-- what a jump passes over, and where the words of an element may lie
+abbrev pub numbers_fit : Instruction → Bool
+numbers_fit (instruction.Or count) = is_counted count
+numbers_fit (instruction.And count) = is_counted count
+numbers_fit (instruction.Unless count) = is_counted count
+numbers_fit (instruction.Skip count) = is_counted count
+numbers_fit (instruction.PutElement line spot) = is_counted spot.offset && is_counted spot.words
+numbers_fit other = true
+
+abbrev pub is_runnable : List Instruction → Bool
+is_runnable code = is_small (length code) && list_all numbers_fit code

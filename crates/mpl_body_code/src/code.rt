@@ -1,0 +1,79 @@
+ghost use Rattle.std.specs.Prelude.{◌≡◌, [], ◌∷◌, ◌++◌, ◌<◌, ◌^◌, length, slice_get, true, IfSome, OnOk};
+ghost use Rattle.mpl_body_code.specs.Runnable.{numbers_fit};
+
+use crate::instruction::Instruction;
+use mpl_value::NoMemory;
+use std::alloc::Global;
+use std::marker::Model;
+
+/// Instructions, one after another.
+#[derive(Drop)]
+pub struct Code {
+    list: Vec<Instruction>,
+}
+
+impl Model for Code {
+    ghost use Rattle.std.specs.Prelude.{◌≡◌, true, List};
+    ghost use Rattle.mpl_body_code.specs.Runnable.{is_runnable};
+    ghost use Rattle.mpl_body_code.specs.declared.instruction.Instruction.{Instruction};
+
+    ghost Value = { List Instruction };
+
+    ghost view = { λ c. c.list.items };
+
+    ghost invariant = { λ c. is_runnable c.list.items ≡ true };
+}
+
+/// No memory has more instructions.
+const MOST: usize = 4611686018427387903;
+
+impl Code {
+    /// No instruction, which takes no memory.
+    pub fn new(alloc: Global) -> Code
+        ensures { result ≡ [] }
+    {
+        Code {
+            list: Vec::new(alloc),
+        }
+    }
+
+    #[tactic(auto, using(crate::proofs::RunnableCode::few_runnable))]
+    pub fn len(&self) -> usize
+        ensures is { result ≡ length self.now }
+        ensures few { result < 2 ^ 62 }
+    {
+        self.list.len()
+    }
+
+    /// One more instruction, at the end.
+    #[tactic(auto, using(crate::proofs::RunnableCode::pushed_runnable))]
+    pub fn push(&mut self, instruction: Instruction) -> Result<(), NoMemory>
+        requires { numbers_fit instruction ≡ true }
+        ensures { OnOk result (self.new ≡ self.old ++ instruction ∷ []) }
+    {
+        if self.list.len() >= MOST {
+            return Err(NoMemory);
+        }
+        self.list.push(instruction)?;
+        Ok(())
+    }
+
+    /// More code, at the end.
+    pub fn append(&mut self, more: &Code) -> Result<(), NoMemory>
+        ensures { OnOk result (self.new ≡ self.old ++ more.now) }
+    {
+        if more.list.len() > MOST - self.list.len() {
+            return Err(NoMemory);
+        }
+        self.list.extend_from_slice(more.list.as_slice())?;
+        Ok(())
+    }
+
+    #[tactic(auto, using(crate::proofs::RunnableCode::got_runnable))]
+    pub fn get(&self, place: usize) -> Option<Instruction>
+        ensures is { result ≡ slice_get self.now place }
+        ensures fits { IfSome result (λ i. (numbers_fit i ≡ true) × (place < 2 ^ 62)) }
+    {
+        self.list.get(place).copied()
+    }
+}

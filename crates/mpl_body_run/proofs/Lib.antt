@@ -1,0 +1,9 @@
+pub mod SlotLists
+pub mod WordLists
+pub mod TakenArguments
+pub mod Unwinding
+pub mod TakenItems
+pub mod SmallSteps
+pub mod Starts
+pub mod Performing
+pub mod Pieces

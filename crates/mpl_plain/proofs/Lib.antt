@@ -1,0 +1,3 @@
+pub mod ExpressionsAsTrees
+pub mod FlowsAsTrees
+pub mod StatementsAsTrees
