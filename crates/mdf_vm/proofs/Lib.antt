@@ -1,0 +1,9 @@
+pub mod Reversed
+pub mod Operands
+pub mod Storing
+pub mod Nearness
+pub mod Going
+pub mod Executing
+pub mod Ran
+pub mod Poured
+pub mod Filled

@@ -1,0 +1,9 @@
+pub mod Results
+pub mod FlowArgs
+pub mod Places
+pub mod Runnings
+pub mod Runs
+pub mod Standing
+pub mod Hollow
+pub mod Ends
+pub mod Internal
