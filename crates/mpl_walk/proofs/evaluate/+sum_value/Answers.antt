@@ -2,7 +2,7 @@ use Rattle.std.proofs.Common.{rules, sym, ap, ◌∙◌}
 use Rattle.mpl_ast.specs.declared.expression.Sum.{the_lemmas}
 use Rattle.mpl_mean.specs.Meaning.ExpressionMeaning.{Evaluates}
 use Rattle.mpl_mean.specs.FirstForms.ExpressionLevels.{sum_value}
-use Rattle.mpl_mean.specs.FirstForms.FirstForm.{is_first_sum}
+use Rattle.mpl_mean.specs.FirstForms.FirstForm.{is_first_sum, is_first_term}
 use Rattle.mpl_walk.proofs.BuiltParts.{sum_parts, one_term}
 use Rattle.mpl_walk.proofs.evaluate.+sum_value.Goals as goal
 
@@ -12,7 +12,7 @@ sum_value-requires t c =
     (search (rules, the_lemmas), ap is_first_sum c.get.ensures ∙ parts.0)
 
 pub term_value-requires-in-Add : goal.term_value-requires-in-Add
-term_value-requires-in-Add t c = (sum_parts _ _ _ _ _ (ap is_first_sum (sym c.in-Add.is) ∙ c.requires)).1
+term_value-requires-in-Add t c = ap is_first_term c.get-in-Add.ensures ∙ (sum_parts _ _ _ _ _ (ap is_first_sum (sym c.in-Add.is) ∙ c.requires)).1
 
 pub returns-in-OneTerm : goal.returns-in-OneTerm
 returns-in-OneTerm t c = λ context s stands.

@@ -37,6 +37,6 @@ returns-in-Times t c = λ context s stands.
     ap (λ node. term_value node context s) c.in-Multiply.is
     ∙ ap (λ (evaluates : Evaluates). evaluates context s) (term_layer c.in-Multiply.field-0 line c.in-Multiply.left c.in-Multiply.operator c.in-Multiply.right)
     ∙ arithmetic_value line (term_operation c.in-Multiply.operator) (term_value c.in-Multiply.left) (unary_value c.in-Multiply.right) a b context s
-    (ap (λ node. term_value node context s) (sym c.get.ensures) ∙ c.in_ok-term_value-in-Multiply.ensures context s stands) (c.in_ok-unary_value-in-Multiply.ensures context s stands)
+    (ap (λ node. term_value node context s) (sym c.get.ensures) ∙ c.in_ok-term_value-in-Multiply.ensures context s stands) (ap (λ node. unary_value node context s) (sym c.get-in-Multiply.ensures) ∙ c.in_ok-unary_value-in-Multiply.ensures context s stands)
     ∙ ap (λ o. evaluated (on_line line (term_operation o (first_word (words_held a)) (first_word (words_held b)))) s) c.in-Times.is
     ∙ ap (λ outcome. evaluated outcome s) made
