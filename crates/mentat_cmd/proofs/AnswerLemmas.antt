@@ -1,37 +1,73 @@
 -- How a run that ended answers.
-use Rattle.std.proofs.Common.{◌≡◌, ℕ, List, inl, inr, sym, subst}
+use Rattle.std.proofs.Common.{◌≡◌, ℕ, ℤ, List, Err, inl, inr, sym, subst}
+use Rattle.mpl_ast.specs.declared.program.Program.{Program}
+use Rattle.mpl_value.specs.declared.body.BodyEnd.TheVariants as end
 use Rattle.mpl_value.specs.declared.body.Yield.{Yield}
+use Rattle.mentat_input.specs.declared.fault.InputFault.{InputFault}
+use Rattle.mentat_input.specs.declared.fault.InputFault.TheVariants as fault
 use Rattle.mentat_cmd.specs.declared.status.Status.{Status}
 use Rattle.mentat_cmd.specs.declared.status.Status.TheVariants as status
-use Rattle.mentat_cmd.specs.Answer.{Answers, Ended, Ends, IsOfRun, IsSaid, IsStatusOf, LeavesOutput, Refuses, Says, Stops, Stream}
+use Rattle.mentat_cmd.specs.Answer.{Answered, Answers, Ended, Ends, IsGiven, IsOfRun, IsRead, IsSaid, IsStatusOf, LeavesOutput, MayRead, Refuses, Says, Shelf, Stops, Stream}
+use Rattle.mentat_cmd.specs.Input.{Input}
+use Rattle.mentat_cmd.specs.Internal.Ran.{HasRun, Reading, fault_status}
 use Rattle.mentat_cmd.specs.Message.{message}
-use Rattle.mentat_cmd.specs.Program.{Runs}
+use Rattle.mentat_cmd.specs.Program.{IsBuilt, NeedsInput}
 
-finishes : (source : List ℕ) (y : Yield) (out err : Stream) (s : Status) (turns : ℕ)
-    → Runs source y → turns ≡ y.turns → Ends y out err s → Answers source out err s turns
-finishes source y out err status.Done turns runs takes ends = record { done = y; runs = runs; takes = takes; ends = ends }
-finishes source y out err (status.Trap trap) turns runs takes ends = record { done = y; runs = runs; takes = takes; ends = ends }
-finishes source y out err status.Stuck turns runs takes ends = record { done = y; runs = runs; takes = takes; ends = ends }
-finishes source y out err status.Spent turns runs takes ends = record { done = y; runs = runs; takes = takes; ends = ends }
-finishes source y out err status.WriteFault turns runs takes ends = record { done = y; runs = runs; takes = takes; ends = ends }
-finishes source y out err status.Usage turns runs takes ends = absurd ends
-finishes source y out err (status.Refused refusal) turns runs takes ends = absurd ends
-finishes source y out err status.ReadFault turns runs takes ends = absurd ends
-finishes source y out err status.NoMemory turns runs takes ends = absurd ends
-finishes source y out err status.TooLong turns runs takes ends = absurd ends
-finishes source y out err (status.Unbuilt at) turns runs takes ends = absurd ends
+finishes : (source : List ℕ) (input : Input) (y : Yield) (out err : Stream) (s : Status) (turns : ℕ)
+    → HasRun source input y → (y.end ≡ end.Waits → ⊥) → turns ≡ y.turns → Ends y out err s → Answers source input out err s turns
+finishes source input y out err status.Done turns h never takes ends = record { numbers = h.numbers; given = h.given; done = y; runs = h.runs; takes = takes; ends = ends }
+finishes source input y out err (status.Trap trap) turns h never takes ends = record { numbers = h.numbers; given = h.given; done = y; runs = h.runs; takes = takes; ends = ends }
+finishes source input y out err status.Stuck turns h never takes ends = never ends.0
+finishes source input y out err status.Spent turns h never takes ends = record { numbers = h.numbers; given = h.given; done = y; runs = h.runs; takes = takes; ends = ends }
+finishes source input y out err status.WriteFault turns h never takes ends = record { numbers = h.numbers; given = h.given; done = y; runs = h.runs; takes = takes; ends = ends }
+finishes source input y out err status.Usage turns h never takes ends = absurd ends
+finishes source input y out err (status.Refused refusal) turns h never takes ends = absurd ends
+finishes source input y out err status.ReadFault turns h never takes ends = absurd ends
+finishes source input y out err (status.BadInput at) turns h never takes ends = absurd ends
+finishes source input y out err status.NoMemory turns h never takes ends = absurd ends
+finishes source input y out err status.TooLong turns h never takes ends = absurd ends
+finishes source input y out err (status.Unbuilt at) turns h never takes ends = absurd ends
+
+-- the input of a run is as before, or its source asks for it
+pub may_read : (source : List ℕ) (input : Input) (numbers : List ℤ) (p : Program) → IsBuilt source p → IsGiven source input numbers → MayRead source input
+may_read source input numbers p built (inl g) = inl g.1
+may_read source input numbers p built (inr g) = inr (record { program = p; source_is = built; asks = g.0 })
 
 -- a run that ended answers so, or memory lacked for its message
-pub answers : (source : List ℕ) (y : Yield) (out err : Stream) (s : Status) (turns : ℕ)
-    → Runs source y → Ended y out err s turns → Answers source out err s turns
-answers source y out err s turns runs (inl e) = finishes source y out err s turns runs e.0 e.1
-answers source y out err s turns runs (inr e) = subst (λ t. Answers source out err t turns) (sym e.0) e.1
+pub answers : (source : List ℕ) (input : Input) (y : Yield) (out err : Stream) (s : Status) (turns : ℕ)
+    → HasRun source input y → (y.end ≡ end.Waits → ⊥) → Ended y out err s turns → Answers source input out err s turns
+answers source input y out err s turns h never (inl e) = finishes source input y out err s turns h never e.0 e.1
+answers source input y out err s turns h never (inr e) = subst (λ t. Answers source input out err t turns) (sym e.0) (may_read source input h.numbers h.runs.program h.runs.source_is h.given, e.1)
 
 -- nothing ran where memory lacked
-pub refused_so : (source : List ℕ) (out err : Stream) (s answered : Status) (turns : ℕ)
-    → (Stops err s turns → Answers source out err s turns) → Refuses err s answered turns → Answers source out err answered turns
-refused_so source out err s answered turns so (inl e) = subst (λ t. Answers source out err t turns) (sym e.0) (so e.1)
-refused_so source out err s answered turns so (inr e) = subst (λ t. Answers source out err t turns) (sym e.0) e.1
+pub refused_so : (source : List ℕ) (input : Input) (out err : Stream) (s answered : Status) (turns : ℕ)
+    → MayRead source input → (Stops err s turns → Answers source input out err s turns) → Refuses err s answered turns → Answers source input out err answered turns
+refused_so source input out err s answered turns may so (inl e) = subst (λ t. Answers source input out err t turns) (sym e.0) (so e.1)
+refused_so source input out err s answered turns may so (inr e) = subst (λ t. Answers source input out err t turns) (sym e.0) (may, e.1)
+
+-- an input that gives no numbers answers so
+pub faulty_input : (source : List ℕ) (input : Input) (out err : Stream) (e : InputFault) (turns : ℕ)
+    → NeedsInput source × Reading input (Err e) → Stops err (fault_status e) turns → Answers source input out err (fault_status e) turns
+faulty_input source input out err fault.ReadFault turns h stops = (h.0, h.1, stops)
+faulty_input source input out err fault.TooLong turns h stops = (inr (h.0, h.1), stops)
+faulty_input source input out err (fault.BadInput at) turns h stops = (h.0, h.1, stops)
+faulty_input source input out err fault.NoMemory turns h stops = (inr h.0, stops)
+
+-- a file that was read
+pub by_file : (shelf : Shelf) (name source : List ℕ) (input : Input) (out err : Stream) (s : Status) (turns : ℕ)
+    → IsRead shelf.files name source → Answers source input out err s turns → Answered shelf name input out err s turns
+by_file shelf name source input out err status.Done turns read a = (source, read, a)
+by_file shelf name source input out err (status.Trap trap) turns read a = (source, read, a)
+by_file shelf name source input out err status.Stuck turns read a = (source, read, a)
+by_file shelf name source input out err status.Spent turns read a = (source, read, a)
+by_file shelf name source input out err status.WriteFault turns read a = (source, read, a)
+by_file shelf name source input out err status.Usage turns read a = (source, read, a)
+by_file shelf name source input out err (status.Refused refusal) turns read a = (source, read, a)
+by_file shelf name source input out err status.ReadFault turns read a = inr (source, read, a)
+by_file shelf name source input out err (status.BadInput at) turns read a = (source, read, a)
+by_file shelf name source input out err status.NoMemory turns read a = inr (source, read, a)
+by_file shelf name source input out err status.TooLong turns read a = (source, read, a)
+by_file shelf name source input out err (status.Unbuilt at) turns read a = (source, read, a)
 
 -- ---- runs whose lines were all written
 
@@ -44,6 +80,7 @@ ends_as y out err (status.Refused refusal) of_ lines text = absurd of_
 ends_as y out err status.Spent of_ lines text = absurd of_
 ends_as y out err status.ReadFault of_ lines text = absurd of_
 ends_as y out err status.WriteFault of_ lines text = absurd of_
+ends_as y out err (status.BadInput at) of_ lines text = absurd of_
 ends_as y out err status.NoMemory of_ lines text = absurd of_
 ends_as y out err status.TooLong of_ lines text = absurd of_
 ends_as y out err (status.Unbuilt at) of_ lines text = absurd of_
@@ -68,6 +105,7 @@ run_wrote (status.Refused refusal) run leaves = run
 run_wrote status.Spent run leaves = run
 run_wrote status.ReadFault run leaves = run
 run_wrote status.WriteFault run leaves = run
+run_wrote (status.BadInput at) run leaves = run
 run_wrote status.NoMemory run leaves = run
 run_wrote status.TooLong run leaves = run
 run_wrote (status.Unbuilt at) run leaves = run

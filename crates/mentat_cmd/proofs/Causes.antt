@@ -1,5 +1,5 @@
 -- Of one source there is one exact answer.
-use Rattle.std.proofs.Common.{◌≡◌, ◌≤◌, ◌<◌, ℕ, List, [], Option, Result, true, Ok, Err, Some, refl, sym, ap, subst, true≢false, ◌∙◌, arith}
+use Rattle.std.proofs.Common.{◌≡◌, ◌+◌, ◌≤◌, ◌<◌, ℕ, ℤ, List, [], Option, None, inl, inr, take, Result, true, Ok, Err, Some, refl, sym, ap, subst, true≢false, ◌∙◌, arith}
 use Rattle.std.specs.Prelude.{length, ◌∷◌}
 use Rattle.mpl_ast.specs.declared.program.Program.{Program}
 use Rattle.mpl_ast.specs.declared.token.Token.{Token}
@@ -7,7 +7,6 @@ use Rattle.mpl_value.specs.declared.body.BodyEnd.{BodyEnd}
 use Rattle.mpl_value.specs.declared.body.BodyEnd.TheVariants as end
 use Rattle.mpl_value.specs.declared.body.Yield.{Yield}
 use Rattle.mpl_mean.specs.Accepted.{IsAccepted}
-use Rattle.mpl_mean.specs.FirstForms.FirstForm.{is_first_form}
 use Rattle.mpl_mean.specs.Limits.{most_source_bytes, usual_budget}
 use Rattle.mpl_mean.specs.Meaning.DirectRun.{direct_run}
 use Rattle.mpl_mean.specs.Text.Lexemes.{LexicalFault, BadByte, OpenComment, WideNumber, tokens_of}
@@ -15,8 +14,15 @@ use Rattle.mpl_mean.specs.Text.ParseFaults.{HasLightProgram, IsSyntaxFault, IsTo
 use Rattle.mpl_mean.specs.Text.ProgramText.{spells}
 use Rattle.mpl_mean.specs.TypeRules.Rules.{Failure, failures, is_empty, is_typed, least, least_failure}
 use Rattle.mentat_io.specs.Shelf.{Files}
-use Rattle.mentat_cmd.specs.Answer.{IsCause, IsExact, IsRead}
-use Rattle.mentat_cmd.specs.Program.{IsBuilt, IsIllTyped, IsRefused, IsUnbuilt, Runs}
+use Rattle.mentat_input.proofs.OneAnswer.{one_answer}
+use Rattle.mentat_input.specs.Limits.{most_input_bytes}
+use Rattle.mentat_input.specs.Reads.{IsDecided, IsInput}
+use Rattle.mentat_input.specs.declared.fault.InputFault.{InputFault}
+use Rattle.mentat_input.specs.declared.fault.InputFault.TheVariants as fault
+use Rattle.mentat_cmd.specs.Answer.{Answers, IsCause, IsExact, IsGiven, IsRead, IsTooLong, any_stream}
+use Rattle.mentat_cmd.specs.Input.{Finds, told_input}
+use Rattle.mentat_cmd.specs.Internal.Ran.{fault_status}
+use Rattle.mentat_cmd.specs.Program.{IsBuilt, IsIllTyped, IsRefused, IsUnbuilt, NeedsInput, Runs, asks_for_input, first_persistent}
 use Rattle.mentat_cmd.specs.declared.status.Refusal.{Refusal}
 use Rattle.mentat_cmd.specs.declared.status.Refusal.TheVariants as refusal
 use Rattle.mentat_cmd.specs.declared.status.Status.{Status}
@@ -45,6 +51,9 @@ not_both_of r x y e f = cc
 some_same : {A : Type 0} (r : Option A) (x y : A) → r ≡ Some x → r ≡ Some y → x ≡ y
 some_same r x y e f = cc
 
+none_is_some : {A : Type 0} (r : Option A) (x : A) → r ≡ None → r ≡ Some x → ⊥
+none_is_some r x e f = cc
+
 -- ---- programs and runs
 
 pub one_program : OneTree → (source : List ℕ) (p q : Program) → IsAccepted source p → IsAccepted source q → p ≡ q
@@ -52,17 +61,23 @@ one_program one_tree source p q a b =
     let same : a.tokens ≡ b.tokens = ok_same (tokens_of source) a.tokens b.tokens a.lexed b.lexed in
     one_tree p q b.tokens (subst (λ (ts : List Token). spells p ts ≡ true) same a.spelled) b.spelled
 
-one_run : OneTree → (source : List ℕ) (y z : Yield) → Runs source y → Runs source z → y ≡ z
-one_run one_tree source y z r s =
+one_run : OneTree → (source : List ℕ) (numbers : List ℤ) (y z : Yield) → Runs source numbers y → Runs source numbers z → y ≡ z
+one_run one_tree source numbers y z r s =
     r.yield
-    ∙ ap (λ (p : Program). direct_run p [] usual_budget) (one_program one_tree source r.program s.program r.source_is.accepted s.source_is.accepted)
+    ∙ ap (λ (p : Program). direct_run p numbers usual_budget) (one_program one_tree source r.program s.program r.source_is.accepted s.source_is.accepted)
     ∙ sym s.yield
 
--- a program of the first form is of no other
-not_unbuilt : OneTree → (source : List ℕ) (p : Program) → IsBuilt source p → IsUnbuilt source → ⊥
-not_unbuilt one_tree source p b u =
+-- a program without persistent classes is none with one
+not_unbuilt : OneTree → (source : List ℕ) (p : Program) (at : ℕ) → IsBuilt source p → IsUnbuilt source at → ⊥
+not_unbuilt one_tree source p at b u =
     let same : p ≡ u.program = one_program one_tree source p u.program b.accepted u.accepted in
-    true≢false (sym (subst (λ (q : Program). is_first_form q ≡ true) same b.first) ∙ u.unbuilt)
+    none_is_some (first_persistent u.program.declarations) at (subst (λ (q : Program). first_persistent q.declarations ≡ None) same b.regular) u.persistent
+
+-- one source has one first word `persistent`
+one_place : OneTree → (source : List ℕ) (at place : ℕ) → IsUnbuilt source at → IsUnbuilt source place → at ≡ place
+one_place one_tree source at place u v =
+    let same : u.program ≡ v.program = one_program one_tree source u.program v.program u.accepted v.accepted in
+    some_same (first_persistent v.program.declarations) at place (subst (λ (q : Program). first_persistent q.declarations ≡ Some at) same u.persistent) v.persistent
 
 -- ---- refusals
 
@@ -170,52 +185,122 @@ status_of (end.Trap trap) = status.Trap trap
 status_of end.Waits = status.Stuck
 status_of end.Spent = status.Spent
 
--- a source is too long, is refused, is of a form that doesn't run, or runs
-data Found (source : List ℕ) (s : Status) (turns : ℕ) : Type 0 where
-  long : most_source_bytes < length source → s ≡ status.TooLong → turns ≡ 0 → Found source s turns
-  wrong : length source ≤ most_source_bytes → (r : Refusal) → Refused source r → s ≡ status.Refused r → turns ≡ 0 → Found source s turns
-  none : length source ≤ most_source_bytes → IsUnbuilt source → s ≡ status.Unbuilt 0 → turns ≡ 0 → Found source s turns
-  ran : (y : Yield) → Runs source y → s ≡ status_of y.end → turns ≡ y.turns → Found source s turns
+abbrev Answer : Type 0
+Answer = Result (List ℤ) InputFault
 
-found : (files : Files) (name : List ℕ) (s : Status) (turns : ℕ) → IsExact s → IsCause files name s turns → (source : List ℕ) × IsRead (Some files) name source × Found source s turns
-found files name status.Done turns x c = (c.0, c.1, ran c.2.done c.2.runs (sym (ap status_of c.2.ends.0)) c.2.takes)
-found files name (status.Trap trap) turns x c = (c.0, c.1, ran c.2.done c.2.runs (sym (ap status_of c.2.ends.0)) c.2.takes)
-found files name status.Stuck turns x c = (c.0, c.1, ran c.2.done c.2.runs (sym (ap status_of c.2.ends.0)) c.2.takes)
-found files name status.Spent turns x c = (c.0, c.1, ran c.2.done c.2.runs (sym (ap status_of c.2.ends.0)) c.2.takes)
-found files name status.TooLong turns x c = (c.0, c.1, long c.2.0 refl c.2.1.0)
-found files name (status.Refused r) turns x c = (c.0, c.1, wrong c.2.0 r (refused c.0 r c.2.1) refl c.2.2.0)
-found files name (status.Unbuilt at) turns x c = (c.0, c.1, none c.2.0 c.2.1 (ap status.Unbuilt c.2.2) c.2.3.0)
-found files name status.Usage turns x c = absurd x
-found files name status.ReadFault turns x c = absurd x
-found files name status.WriteFault turns x c = absurd x
-found files name status.NoMemory turns x c = absurd x
+-- the bytes of an input that are read
+abbrev read_of : List ℕ → List ℕ
+read_of left = take (most_input_bytes + 1) left
+
+-- a source is too long, is refused, has a persistent class, asks for an input that gives no numbers, or runs
+data Found (source left : List ℕ) (s : Status) (turns : ℕ) : Type 0 where
+  long : most_source_bytes < length source → s ≡ status.TooLong → turns ≡ 0 → Found source left s turns
+  wrong : length source ≤ most_source_bytes → (r : Refusal) → Refused source r → s ≡ status.Refused r → turns ≡ 0 → Found source left s turns
+  none : (at : ℕ) → IsUnbuilt source at → s ≡ status.Unbuilt at → turns ≡ 0 → Found source left s turns
+  faulty : NeedsInput source → (e : InputFault) → IsDecided (Err e) → IsInput (read_of left) (Err e) → s ≡ fault_status e → turns ≡ 0 → Found source left s turns
+  ran : (numbers : List ℤ) (y : Yield) → IsGiven source (told_input left) numbers → Runs source numbers y → s ≡ status_of y.end → turns ≡ y.turns → Found source left s turns
+
+-- what is found of an input that is told
+input_is : (left : List ℕ) (answer : Answer) → Finds (told_input left) answer → IsInput (read_of left) answer
+input_is left answer f = subst (λ (bytes : List ℕ). IsInput bytes answer) f.1 f.2
+
+found_too_long : (source left : List ℕ) (turns : ℕ) → IsTooLong source (told_input left) → turns ≡ 0 → Found source left status.TooLong turns
+found_too_long source left turns (inl h) zero = long h.0 refl zero
+found_too_long source left turns (inr h) zero = faulty h.0 fault.TooLong tt (input_is left (Err fault.TooLong) h.1) refl zero
+
+found_in : (source left : List ℕ) (s : Status) (turns : ℕ) → IsExact s → Answers source (told_input left) any_stream any_stream s turns → Found source left s turns
+found_in source left status.Done turns x c = ran c.numbers c.done c.given c.runs (sym (ap status_of c.ends.0)) c.takes
+found_in source left (status.Trap trap) turns x c = ran c.numbers c.done c.given c.runs (sym (ap status_of c.ends.0)) c.takes
+found_in source left status.Spent turns x c = ran c.numbers c.done c.given c.runs (sym (ap status_of c.ends.0)) c.takes
+found_in source left status.Stuck turns x c = absurd c
+found_in source left status.TooLong turns x c = found_too_long source left turns c.0 c.1.0
+found_in source left (status.Refused r) turns x c = wrong c.0 r (refused source r c.1) refl c.3.0
+found_in source left (status.Unbuilt at) turns x c = none at c.0 refl c.2.0
+found_in source left (status.BadInput at) turns x c = faulty c.0 (fault.BadInput at) tt (input_is left (Err (fault.BadInput at)) c.1) refl c.2.0
+found_in source left status.Usage turns x c = absurd x
+found_in source left status.ReadFault turns x c = absurd x
+found_in source left status.WriteFault turns x c = absurd x
+found_in source left status.NoMemory turns x c = absurd x
+
+found : (files : Files) (name left : List ℕ) (s : Status) (turns : ℕ) → IsExact s → IsCause files name left s turns → (source : List ℕ) × IsRead (Some files) name source × Found source left s turns
+found files name left status.Done turns x c = (c.0, c.1, found_in c.0 left status.Done turns x c.2)
+found files name left (status.Trap trap) turns x c = (c.0, c.1, found_in c.0 left (status.Trap trap) turns x c.2)
+found files name left status.Stuck turns x c = (c.0, c.1, found_in c.0 left status.Stuck turns x c.2)
+found files name left status.Spent turns x c = (c.0, c.1, found_in c.0 left status.Spent turns x c.2)
+found files name left status.TooLong turns x c = (c.0, c.1, found_in c.0 left status.TooLong turns x c.2)
+found files name left (status.Refused r) turns x c = (c.0, c.1, found_in c.0 left (status.Refused r) turns x c.2)
+found files name left (status.Unbuilt at) turns x c = (c.0, c.1, found_in c.0 left (status.Unbuilt at) turns x c.2)
+found files name left (status.BadInput at) turns x c = (c.0, c.1, found_in c.0 left (status.BadInput at) turns x c.2)
+found files name left status.Usage turns x c = absurd x
+found files name left status.ReadFault turns x c = absurd x
+found files name left status.WriteFault turns x c = absurd x
+found files name left status.NoMemory turns x c = absurd x
 
 too_short : (source : List ℕ) → most_source_bytes < length source → length source ≤ most_source_bytes → ⊥
 too_short source h k = omega (arith, h, k)
 
-one_answer : OneTree → OneFault → (source : List ℕ) (s t : Status) (m n : ℕ) → Found source s m → Found source t n → (s ≡ t) × (m ≡ n)
-one_answer tree one source s t m n (long h is zero) (long k js also) = (is ∙ sym js, zero ∙ sym also)
-one_answer tree one source s t m n (long h is zero) (wrong k r w js also) = absurd (too_short source h k)
-one_answer tree one source s t m n (long h is zero) (none k lacks js also) = absurd (too_short source h k)
-one_answer tree one source s t m n (long h is zero) (ran y r js takes) = absurd (too_short source h r.source_is.accepted.short)
-one_answer tree one source s t m n (wrong h r w is zero) (long k js also) = absurd (too_short source k h)
-one_answer tree one source s t m n (wrong h r w is zero) (wrong k q v js also) = (is ∙ ap status.Refused (one_refusal tree one source r q w v) ∙ sym js, zero ∙ sym also)
-one_answer tree one source s t m n (wrong h r w is zero) (none k lacks js also) = absurd (not_refused tree one source r lacks.program w lacks.accepted)
-one_answer tree one source s t m n (wrong h q w is zero) (ran y r js takes) = absurd (not_refused tree one source q r.program w r.source_is.accepted)
-one_answer tree one source s t m n (none h lacks is zero) (long k js also) = absurd (too_short source k h)
-one_answer tree one source s t m n (none h lacks is zero) (wrong k r w js also) = absurd (not_refused tree one source r lacks.program w lacks.accepted)
-one_answer tree one source s t m n (none h lacks is zero) (none k lacking js also) = (is ∙ sym js, zero ∙ sym also)
-one_answer tree one source s t m n (none h lacks is zero) (ran y r js takes) = absurd (not_unbuilt tree source r.program r.source_is lacks)
-one_answer tree one source s t m n (ran y r is takes) (long k js also) = absurd (too_short source k r.source_is.accepted.short)
-one_answer tree one source s t m n (ran y r is takes) (wrong k q w js also) = absurd (not_refused tree one source q r.program w r.source_is.accepted)
-one_answer tree one source s t m n (ran y r is takes) (none k lacking js also) = absurd (not_unbuilt tree source r.program r.source_is lacking)
-one_answer tree one source s t m n (ran y r is takes) (ran z q js also) =
-    let same : y ≡ z = one_run tree source y z r q in
+-- ---- inputs
+
+err_of : {A E : Type 0} (e f : E) → ◌≡◌ {A = Result A E} (Err e) (Err f) → e ≡ f
+err_of e f same = cc
+
+ok_of : {A E : Type 0} (x y : A) → ◌≡◌ {A = Result A E} (Ok x) (Ok y) → x ≡ y
+ok_of x y same = cc
+
+err_is_ok : {A E : Type 0} (e : E) (x : A) → ◌≡◌ {A = Result A E} (Err e) (Ok x) → ⊥
+err_is_ok e x same = cc
+
+one_fault : (left : List ℕ) (e f : InputFault) → IsDecided (Err e) → IsDecided (Err f) → IsInput (read_of left) (Err e) → IsInput (read_of left) (Err f) → e ≡ f
+one_fault left e f x y i j = err_of e f (one_answer (read_of left) (Err e) (Err f) x y i j)
+
+-- a run is given numbers where the source asks for none, or where the input has them
+not_faulty : (source left : List ℕ) (e : InputFault) (numbers : List ℤ) → asks_for_input source ≡ true → IsDecided (Err e) → IsInput (read_of left) (Err e) → IsGiven source (told_input left) numbers → ⊥
+not_faulty source left e numbers asks x i (inl g) = true≢false (sym asks ∙ g.0)
+not_faulty source left e numbers asks x i (inr g) =
+    err_is_ok e numbers (one_answer (read_of left) (Err e) (Ok numbers) x tt i (input_is left (Ok numbers) g.1))
+
+one_given : (source left : List ℕ) (ns ms : List ℤ) → IsGiven source (told_input left) ns → IsGiven source (told_input left) ms → ns ≡ ms
+one_given source left ns ms (inl g) (inl h) = g.2 ∙ sym h.2
+one_given source left ns ms (inl g) (inr h) = absurd (true≢false (sym h.0 ∙ g.0))
+one_given source left ns ms (inr g) (inl h) = absurd (true≢false (sym g.0 ∙ h.0))
+one_given source left ns ms (inr g) (inr h) =
+    ok_of ns ms (one_answer (read_of left) (Ok ns) (Ok ms) tt tt (input_is left (Ok ns) g.1) (input_is left (Ok ms) h.1))
+
+-- ---- one answer
+
+one_found : OneTree → OneFault → (source left : List ℕ) (s t : Status) (m n : ℕ) → Found source left s m → Found source left t n → (s ≡ t) × (m ≡ n)
+one_found tree one source left s t m n (long h is zero) (long k js also) = (is ∙ sym js, zero ∙ sym also)
+one_found tree one source left s t m n (long h is zero) (wrong k r w js also) = absurd (too_short source h k)
+one_found tree one source left s t m n (long h is zero) (none at u js also) = absurd (too_short source h u.accepted.short)
+one_found tree one source left s t m n (long h is zero) (faulty a e x i js also) = absurd (too_short source h a.source_is.accepted.short)
+one_found tree one source left s t m n (long h is zero) (ran ns y g r js takes) = absurd (too_short source h r.source_is.accepted.short)
+one_found tree one source left s t m n (wrong h r w is zero) (long k js also) = absurd (too_short source k h)
+one_found tree one source left s t m n (wrong h r w is zero) (wrong k q v js also) = (is ∙ ap status.Refused (one_refusal tree one source r q w v) ∙ sym js, zero ∙ sym also)
+one_found tree one source left s t m n (wrong h r w is zero) (none at u js also) = absurd (not_refused tree one source r u.program w u.accepted)
+one_found tree one source left s t m n (wrong h r w is zero) (faulty a e x i js also) = absurd (not_refused tree one source r a.program w a.source_is.accepted)
+one_found tree one source left s t m n (wrong h q w is zero) (ran ns y g r js takes) = absurd (not_refused tree one source q r.program w r.source_is.accepted)
+one_found tree one source left s t m n (none at u is zero) (long k js also) = absurd (too_short source k u.accepted.short)
+one_found tree one source left s t m n (none at u is zero) (wrong k r w js also) = absurd (not_refused tree one source r u.program w u.accepted)
+one_found tree one source left s t m n (none at u is zero) (none place v js also) = (is ∙ ap status.Unbuilt (one_place tree source at place u v) ∙ sym js, zero ∙ sym also)
+one_found tree one source left s t m n (none at u is zero) (faulty a e x i js also) = absurd (not_unbuilt tree source a.program at a.source_is u)
+one_found tree one source left s t m n (none at u is zero) (ran ns y g r js takes) = absurd (not_unbuilt tree source r.program at r.source_is u)
+one_found tree one source left s t m n (faulty a e x i is zero) (long k js also) = absurd (too_short source k a.source_is.accepted.short)
+one_found tree one source left s t m n (faulty a e x i is zero) (wrong k r w js also) = absurd (not_refused tree one source r a.program w a.source_is.accepted)
+one_found tree one source left s t m n (faulty a e x i is zero) (none at u js also) = absurd (not_unbuilt tree source a.program at a.source_is u)
+one_found tree one source left s t m n (faulty a e x i is zero) (faulty b f y j js also) = (is ∙ ap fault_status (one_fault left e f x y i j) ∙ sym js, zero ∙ sym also)
+one_found tree one source left s t m n (faulty a e x i is zero) (ran ns y g r js takes) = absurd (not_faulty source left e ns a.asks x i g)
+one_found tree one source left s t m n (ran ns y g r is takes) (long k js also) = absurd (too_short source k r.source_is.accepted.short)
+one_found tree one source left s t m n (ran ns y g r is takes) (wrong k q w js also) = absurd (not_refused tree one source q r.program w r.source_is.accepted)
+one_found tree one source left s t m n (ran ns y g r is takes) (none at u js also) = absurd (not_unbuilt tree source r.program at r.source_is u)
+one_found tree one source left s t m n (ran ns y g r is takes) (faulty a e x i js also) = absurd (not_faulty source left e ns a.asks x i g)
+one_found tree one source left s t m n (ran ns y g r is takes) (ran ms z h q js also) =
+    let numbers : ns ≡ ms = one_given source left ns ms g h in
+    let same : y ≡ z = one_run tree source ms y z (subst (λ (ks : List ℤ). Runs source ks y) numbers r) q in
     (is ∙ ap (λ (w : Yield). status_of w.end) same ∙ sym js, takes ∙ ap (λ (w : Yield). w.turns) same ∙ sym also)
 
-pub causes_exclude : OneTree → OneFault → (files : Files) (name : List ℕ) (s t : Status) (m n : ℕ) → IsExact s → IsExact t → IsCause files name s m → IsCause files name t n → (s ≡ t) × (m ≡ n)
-causes_exclude tree one files name s t m n x z c d =
-    let a = found files name s m x c in
-    let b = found files name t n z d in
+pub causes_exclude : OneTree → OneFault → (files : Files) (name left : List ℕ) (s t : Status) (m n : ℕ) → IsExact s → IsExact t → IsCause files name left s m → IsCause files name left t n → (s ≡ t) × (m ≡ n)
+causes_exclude tree one files name left s t m n x z c d =
+    let a = found files name left s m x c in
+    let b = found files name left t n z d in
     let same : a.0 ≡ b.0 = some_same _ a.0 b.0 a.1.1 b.1.1 in
-    one_answer tree one b.0 s t m n (subst (λ source. Found source s m) same a.2) b.2
+    one_found tree one b.0 left s t m n (subst (λ source. Found source left s m) same a.2) b.2

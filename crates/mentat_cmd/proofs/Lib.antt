@@ -1,3 +1,5 @@
 mod AnswerLemmas
 mod Causes
 mod OutputLemmas
+mod Persistent
+mod RunLemmas

@@ -1,5 +1,5 @@
 -- What a command answers, and why.
-use Rattle.std.specs.Prelude.{◌≡◌, ◌⊎◌, ℕ, ◌+◌, ◌<◌, ◌≤◌, List, [], Option, Some, None, length, IfSome, IsSome}
+use Rattle.std.specs.Prelude.{◌≡◌, ◌⊎◌, ℕ, ◌+◌, ◌<◌, ◌≤◌, Bool, true, false, ℤ, List, [], Option, Some, None, Ok, Err, length, IfSome, IsSome, IsTrue}
 use Rattle.mentat_io.specs.Causes.{Rose}
 use Rattle.mentat_io.specs.Shelf.{Files, IsStartOf, file_named}
 use Rattle.mpl_mean.specs.Limits.{most_source_bytes, usual_budget}
@@ -8,9 +8,11 @@ use Rattle.mpl_value.specs.declared.body.BodyEnd.TheVariants as end
 use Rattle.mpl_value.specs.declared.body.Yield.{Yield}
 use Rattle.mentat_cmd.specs.declared.status.Status.{Status}
 use Rattle.mentat_cmd.specs.declared.status.Status.TheVariants as status
+use Rattle.mentat_input.specs.declared.fault.InputFault.TheVariants as fault
+use Rattle.mentat_cmd.specs.Input.{Finds, Input, told_input}
 use Rattle.mentat_cmd.specs.Message.{message}
 use Rattle.mentat_cmd.specs.Output.{Appends, AppendsFront}
-use Rattle.mentat_cmd.specs.Program.{IsRefused, IsUnbuilt, Runs}
+use Rattle.mentat_cmd.specs.Program.{IsRefused, IsUnbuilt, NeedsInput, Runs, asks_for_input}
 
 -- The bytes that were read are those of the file. Of a longer file than a source may be they are the first ones, one
 -- more than the limit, and no more are read of a file that isn't told.
@@ -88,10 +90,18 @@ IsSaid err s answered =
     ((answered ≡ s) × err.whole (message s))
     ⊎ ((answered ≡ status.WriteFault) × IsReported s × err.front (message s) × err.fault)
 
+-- The numbers that a run is given: those of the input where the source asks for it, and else none.
+abbrev pub IsGiven : List ℕ → Input → List ℤ → Type 0
+IsGiven source input numbers =
+    ((asks_for_input source ≡ false) × input.untouched × (numbers ≡ []))
+    ⊎ ((asks_for_input source ≡ true) × Finds input (Ok numbers))
+
 -- the source has a run that ended so, in so many turns
-pub record Finishes (source : List ℕ) (out err : Stream) (s : Status) (turns : ℕ) : Type 0 where
+pub record Finishes (source : List ℕ) (input : Input) (out err : Stream) (s : Status) (turns : ℕ) : Type 0 where
+  pub numbers : List ℤ
+  pub given : IsGiven source input numbers
   pub done : Yield
-  pub runs : Runs source done
+  pub runs : Runs source numbers done
   pub takes : turns ≡ done.turns
   pub ends : Ends done out err s
 
@@ -108,31 +118,66 @@ Refuses err s answered turns = ((answered ≡ s) × Stops err s turns) ⊎ ((ans
 abbrev pub Ended : Yield → (out err : Stream) → Status → ℕ → Type 0
 Ended y out err answered turns = ((turns ≡ y.turns) × Ends y out err answered) ⊎ ((answered ≡ status.NoMemory) × Stops err status.NoMemory turns)
 
--- How a command ends that has read these bytes: each status with its cause.
-abbrev pub Answers : List ℕ → (out err : Stream) → Status → ℕ → Type 0
-Answers source out err status.TooLong turns = (most_source_bytes < length source) × Stops err status.TooLong turns
-Answers source out err (status.Refused refusal) turns = (length source ≤ most_source_bytes) × IsRefused source refusal × Stops err (status.Refused refusal) turns
-Answers source out err (status.Unbuilt at) turns = (length source ≤ most_source_bytes) × IsUnbuilt source × (at ≡ 0) × Stops err (status.Unbuilt at) turns
-Answers source out err status.NoMemory turns = Stops err status.NoMemory turns
-Answers source out err status.Usage turns = ⊥
-Answers source out err status.ReadFault turns = ⊥
-Answers source out err status.Done turns = Finishes source out err status.Done turns
-Answers source out err (status.Trap trap) turns = Finishes source out err (status.Trap trap) turns
-Answers source out err status.Stuck turns = Finishes source out err status.Stuck turns
-Answers source out err status.Spent turns = Finishes source out err status.Spent turns
-Answers source out err status.WriteFault turns = Finishes source out err status.WriteFault turns
+-- the input is as before, or the source asks for it
+abbrev pub MayRead : List ℕ → Input → Type 0
+MayRead source input = input.untouched ⊎ NeedsInput source
 
--- How a command ends that names a file: without memory, without the file, or by the bytes that were read.
-abbrev pub Answered : Option Files → List ℕ → (out err : Stream) → Status → ℕ → Type 0
-Answered files name out err status.ReadFault turns = Stops err status.ReadFault turns
-Answered files name out err status.NoMemory turns = Stops err status.NoMemory turns
-Answered files name out err s turns = (source : List ℕ) × IsRead files name source × Answers source out err s turns
+-- the source is above its limit, or the input that it asks for is
+abbrev pub IsTooLong : List ℕ → Input → Type 0
+IsTooLong source input =
+    ((most_source_bytes < length source) × input.untouched) ⊎ (NeedsInput source × Finds input (Err fault.TooLong))
+
+-- How a command ends that has read these bytes of a file: each status with its cause.
+abbrev pub Answers : List ℕ → Input → (out err : Stream) → Status → ℕ → Type 0
+Answers source input out err status.TooLong turns = IsTooLong source input × Stops err status.TooLong turns
+Answers source input out err (status.Refused refusal) turns =
+    (length source ≤ most_source_bytes) × IsRefused source refusal × input.untouched × Stops err (status.Refused refusal) turns
+Answers source input out err (status.Unbuilt at) turns = IsUnbuilt source at × input.untouched × Stops err (status.Unbuilt at) turns
+Answers source input out err (status.BadInput at) turns = NeedsInput source × Finds input (Err (fault.BadInput at)) × Stops err (status.BadInput at) turns
+Answers source input out err status.ReadFault turns = NeedsInput source × input.fault × Stops err status.ReadFault turns
+Answers source input out err status.NoMemory turns = MayRead source input × Stops err status.NoMemory turns
+Answers source input out err status.Usage turns = ⊥
+Answers source input out err status.Stuck turns = ⊥
+Answers source input out err status.Done turns = Finishes source input out err status.Done turns
+Answers source input out err (status.Trap trap) turns = Finishes source input out err (status.Trap trap) turns
+Answers source input out err status.Spent turns = Finishes source input out err status.Spent turns
+Answers source input out err status.WriteFault turns = Finishes source input out err status.WriteFault turns
+
+-- A shelf in a command: its files, where they are told, whether it was sure of each that is there, and that reading one
+-- failed.
+pub record Shelf : Type 1 where
+  pub files : Option Files
+  pub sure : Bool
+  pub fault : Type 0
+
+-- a shelf, by what it has, and by its count of faults, before and after
+abbrev pub shelf_of : Option Files → Bool → ℕ → ℕ → Shelf
+shelf_of files sure old new = record { files = files; sure = sure; fault = Rose old new }
+
+-- one that has these files, of which nothing else is said
+abbrev pub told_shelf : Files → Shelf
+told_shelf files = record { files = Some files; sure = false; fault = Unit {0} }
 
 -- the files are told, and the file is among them
-abbrev pub IsThere : Option Files → Option (List ℕ) → Type 0
-IsThere (Some fs) (Some name) = IsSome (file_named fs name)
+abbrev pub IsThere : Option Files → List ℕ → Type 0
+IsThere (Some fs) name = IsSome (file_named fs name)
 IsThere None name = ⊥
-IsThere (Some fs) None = ⊥
+
+-- reading the file failed, and the shelf wasn't sure of it
+abbrev pub FailsToRead : Shelf → List ℕ → Type 0
+FailsToRead shelf name = shelf.fault × (IsTrue shelf.sure → IsThere shelf.files name → ⊥)
+
+-- it ends by the bytes that were read of the file
+abbrev pub AnswersFile : Shelf → List ℕ → Input → (out err : Stream) → Status → ℕ → Type 0
+AnswersFile shelf name input out err s turns = (source : List ℕ) × IsRead shelf.files name source × Answers source input out err s turns
+
+-- How a command ends that names a file: without memory or the file, or by the bytes that were read.
+abbrev pub Answered : Shelf → List ℕ → Input → (out err : Stream) → Status → ℕ → Type 0
+Answered shelf name input out err status.NoMemory turns =
+    (input.untouched × Stops err status.NoMemory turns) ⊎ AnswersFile shelf name input out err status.NoMemory turns
+Answered shelf name input out err status.ReadFault turns =
+    (FailsToRead shelf name × input.untouched × Stops err status.ReadFault turns) ⊎ AnswersFile shelf name input out err status.ReadFault turns
+Answered shelf name input out err s turns = AnswersFile shelf name input out err s turns
 
 -- a status with which nothing was written to the output
 abbrev pub LeavesOutput : Status → Type 0
@@ -152,6 +197,7 @@ IsExact status.WriteFault = ⊥
 IsExact status.NoMemory = ⊥
 IsExact _ = Unit {0}
 
--- a command that names this file, which is told, would rightly end so, as far as its turns and its status go
-abbrev pub IsCause : Files → List ℕ → Status → ℕ → Type 0
-IsCause files name s turns = Answered (Some files) name any_stream any_stream s turns
+-- a command that names this file, which is told, would rightly end so with this input, as far as its turns and its status
+-- go
+abbrev pub IsCause : Files → List ℕ → List ℕ → Status → ℕ → Type 0
+IsCause files name left s turns = Answered (told_shelf files) name (told_input left) any_stream any_stream s turns

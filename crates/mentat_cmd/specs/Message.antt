@@ -42,6 +42,7 @@ message status.Spent = codes "mentat: spent" ++ 10 ∷ []
 message status.Stuck = codes "mentat: stuck" ++ 10 ∷ []
 message status.ReadFault = codes "mentat: read fault" ++ 10 ∷ []
 message status.WriteFault = codes "mentat: write fault" ++ 10 ∷ []
+message (status.BadInput at) = codes "mentat: bad input at byte " ++ (decimal at ++ 10 ∷ [])
 message status.NoMemory = codes "mentat: no memory" ++ 10 ∷ []
 message status.TooLong = codes "mentat: too long" ++ 10 ∷ []
 message (status.Unbuilt at) = codes "mentat: unbuilt at byte " ++ (decimal at ++ 10 ∷ [])

@@ -12,6 +12,7 @@ number_of status.Spent = 4
 number_of status.Stuck = 5
 number_of status.ReadFault = 6
 number_of status.WriteFault = 7
+number_of (status.BadInput at) = 8
 number_of status.NoMemory = 9
 number_of status.TooLong = 10
 number_of (status.Unbuilt at) = 13

@@ -1,9 +1,10 @@
-ghost use Rattle.std.specs.Prelude.{◌≡◌, ◌↔◌, ◌≢◌, ◌+◌, None, IfSome, IsTrue};
-ghost use Rattle.mentat_io.specs.Causes.{Rose};
+ghost use Rattle.std.specs.Prelude.{◌≡◌, ◌↔◌, ◌+◌, None, IfSome};
 ghost use Rattle.mpl_mean.specs.Limits.{usual_budget};
-ghost use Rattle.mpl_value.specs.declared.body.BodyEnd.TheVariants.{Spent};
+ghost use Rattle.mpl_value.specs.declared.body.BodyEnd.TheVariants.{Spent, Waits};
 ghost use Rattle.mpl_value.specs.declared.body.Yield.{Yield};
-ghost use Rattle.mentat_cmd.specs.Answer.{Answered, Answers, Ended, Ends, IsOfRun, IsSaid, IsStatusOf, IsThere, IsWritten, LeavesOutput, Refuses, Says, Stops, stream};
+ghost use Rattle.mentat_cmd.specs.Answer.{Answered, Answers, Ended, Ends, IsOfRun, IsSaid, IsStatusOf, IsWritten, LeavesOutput, Refuses, Says, Stops, shelf_of, stream};
+ghost use Rattle.mentat_cmd.specs.Input.{input_of};
+ghost use Rattle.mentat_cmd.specs.Internal.Ran.{fault_status};
 ghost use Rattle.mentat_cmd.specs.Message as spec;
 ghost use Rattle.mentat_cmd.specs.Message.{text_of};
 ghost use Rattle.mentat_cmd.specs.Words.{file_of};
@@ -13,6 +14,7 @@ use crate::output::{say, write_all};
 use crate::run::{Rejection, run};
 use crate::status::{Ending, Status};
 use crate::words;
+use mentat_input::InputFault;
 use mentat_io::{Failed, Shelf, ShelfFault, Sink, Source, Text};
 use mpl_value::{BodyEnd, NoMemory, Yield};
 use std::alloc::Global;
@@ -20,8 +22,9 @@ use std::alloc::Global;
 /// The most bytes that a source may have.
 const SOURCE_LIMIT: u32 = 1_048_576;
 
-/// Does what the words say: `run FILE` runs the program in FILE and writes what it prints to `out`. How that ended is
-/// said on `err`, as far as it takes it.
+/// Does what the words say: `run FILE` runs the program in FILE and writes what it prints to `out`. The numbers that it
+/// takes by `input()` are those of `input`, which is read before the run. How that ended is said on `err`, as far as it
+/// takes it.
 pub fn quiet_command<F: Shelf, S: Source, K: Sink, E: Sink>(
     alloc: Global,
     words: &[Text],
@@ -35,25 +38,24 @@ pub fn quiet_command<F: Shelf, S: Source, K: Sink, E: Sink>(
     ensures unread { file_of words.now ≡ None → shelf.new ≡ shelf.old }
     ensures idle { file_of words.now ≡ None → Stops (stream (E.written err.old) (E.written err.new) (E.faults err.old) (E.faults err.new)) Status.Usage result.turns }
 
-    // Reading the file failed, which a shelf that is sure of it rules out.
-    ensures read_fault { result.status ≡ Status.ReadFault → Rose (F.faults shelf.old) (F.faults shelf.new) }
-    ensures sure { IsTrue (F.sure shelf.old) → IsThere (F.files shelf.old) (file_of words.now) → result.status ≢ Status.ReadFault }
+    ensures unasked { file_of words.now ≡ None → input.new ≡ input.old }
 
-    // Each other answer follows from the bytes that were read, and so does what was written.
-    ensures answer { IfSome (file_of words.now) (λ name. Answered (F.files shelf.old) name
+    // Each other answer follows from the bytes that were read, of the file and of the input, and so does what was written.
+    ensures answer { IfSome (file_of words.now) (λ name. Answered
+        (shelf_of (F.files shelf.old) (F.sure shelf.old) (F.faults shelf.old) (F.faults shelf.new)) name
+        (input_of (S.left input.old) (S.left input.new) (S.faults input.old) (S.faults input.new) (input.new ≡ input.old))
         (stream (K.written out.old) (K.written out.new) (K.faults out.old) (K.faults out.new))
         (stream (E.written err.old) (E.written err.new) (E.faults err.old) (E.faults err.new))
         result.status result.turns) }
 
     ensures unwritten { LeavesOutput result.status → out.new ≡ out.old }
     ensures silent { result.status ≡ Status.Done → err.new ≡ err.old }
-    ensures input { input.new ≡ input.old }
 {
     let Some(name) = words::file_of(words) else {
         return stop(&Message::Fixed("mentat: usage\n"), Status::Usage, err);
     };
     match shelf.read_file(alloc, name, SOURCE_LIMIT + 1) {
-        Ok(bytes) => answer(alloc, bytes.as_slice(), out, err),
+        Ok(bytes) => answer(alloc, bytes.as_slice(), input, out, err),
         Err(ShelfFault::Failed) => stop(
             &Message::Fixed("mentat: read fault\n"),
             Status::ReadFault,
@@ -103,8 +105,15 @@ fn refuse<E: Sink>(alloc: Global, status: Status, err: &mut E) -> Ending
 }
 
 // Runs the program that the bytes are the source of.
-fn answer<K: Sink, E: Sink>(alloc: Global, bytes: &[u8], out: &mut K, err: &mut E) -> Ending
+fn answer<S: Source, K: Sink, E: Sink>(
+    alloc: Global,
+    bytes: &[u8],
+    input: &mut S,
+    out: &mut K,
+    err: &mut E,
+) -> Ending
     ensures cause { Answers bytes.now
+        (input_of (S.left input.old) (S.left input.new) (S.faults input.old) (S.faults input.new) (input.new ≡ input.old))
         (stream (K.written out.old) (K.written out.new) (K.faults out.old) (K.faults out.new))
         (stream (E.written err.old) (E.written err.new) (E.faults err.old) (E.faults err.new))
         result.status result.turns }
@@ -114,11 +123,24 @@ fn answer<K: Sink, E: Sink>(alloc: Global, bytes: &[u8], out: &mut K, err: &mut 
     if bytes.len() > SOURCE_LIMIT as usize {
         return stop(&Message::Fixed("mentat: too long\n"), Status::TooLong, err);
     }
-    match run(alloc, bytes) {
+    match run(alloc, bytes, input) {
         Ok(done) => finish(alloc, &done, out, err),
         Err(Rejection::Refused(refusal)) => refuse(alloc, Status::Refused(refusal), err),
-        Err(Rejection::Unbuilt) => refuse(alloc, Status::Unbuilt(0), err),
+        Err(Rejection::Unbuilt(at)) => refuse(alloc, Status::Unbuilt(u64::from(at)), err),
+        Err(Rejection::Input(fault)) => refuse(alloc, status_of_fault(fault), err),
         Err(Rejection::NoMemory) => without_memory(err),
+    }
+}
+
+// What an input is answered by that gives no numbers.
+fn status_of_fault(fault: InputFault) -> Status
+    ensures { result ≡ fault_status fault }
+{
+    match fault {
+        InputFault::ReadFault => Status::ReadFault,
+        InputFault::TooLong => Status::TooLong,
+        InputFault::BadInput(at) => Status::BadInput(at),
+        InputFault::NoMemory => Status::NoMemory,
     }
 }
 

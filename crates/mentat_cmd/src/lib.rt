@@ -6,6 +6,7 @@ mod laws;
 mod message;
 mod output;
 mod run;
+mod source_words;
 mod status;
 mod words;
 

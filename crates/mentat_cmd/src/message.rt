@@ -36,6 +36,9 @@ pub fn message_of(alloc: Global, status: Status) -> Result<Message, NoMemory>
         Status::Stuck => Message::Fixed("mentat: stuck\n"),
         Status::ReadFault => Message::Fixed("mentat: read fault\n"),
         Status::WriteFault => Message::Fixed("mentat: write fault\n"),
+        Status::BadInput(at) => Message::Made(format!(in alloc;
+            "mentat: bad input at byte {at}\n"
+        )?),
         Status::NoMemory => Message::Fixed("mentat: no memory\n"),
         Status::TooLong => Message::Fixed("mentat: too long\n"),
         Status::Unbuilt(at) => Message::Made(format!(in alloc; "mentat: unbuilt at byte {at}\n")?),

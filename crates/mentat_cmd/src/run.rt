@@ -1,19 +1,24 @@
-ghost use Rattle.std.specs.Prelude.{◌≡◌, ◌+◌, ◌≤◌, [], length, true, List, ℕ, Ok, Err, IfOk, IfErr};
+ghost use Rattle.std.specs.Prelude.{◌≡◌, ◌+◌, ◌≤◌, length, true, List, ℕ, Ok, Err, IfOk, IfErr};
 ghost use Rattle.mpl_mean.specs.Accepted.{IsAccepted};
 ghost use Rattle.mpl_mean.specs.Limits.{most_source_bytes, most_tokens, usual_budget};
-ghost use Rattle.mpl_mean.specs.Meaning.DirectRun.{main_start};
+ghost use Rattle.mpl_mean.specs.Meaning.DirectRun.{direct_run, main_start};
 ghost use Rattle.mpl_mean.specs.Text.Lexemes.{tokens_of};
 ghost use Rattle.mpl_mean.specs.Text.ProgramText.{spells};
 ghost use Rattle.mpl_mean.specs.Text.Weight.{is_light};
-ghost use Rattle.mpl_value.specs.declared.body.BodyEnd.TheVariants.{Spent};
-ghost use Rattle.mentat_cmd.specs.Program.{Ran};
+ghost use Rattle.mpl_value.specs.declared.body.BodyEnd.TheVariants.{Spent, Waits};
+ghost use Rattle.mentat_cmd.specs.Input.{input_of};
+ghost use Rattle.mentat_cmd.specs.Internal.Ran.{Giving, IsRejected, Ran};
+ghost use Rattle.mentat_cmd.specs.Program.{IsBuilt};
+ghost use Rattle.mentat_cmd.specs.Program as spec;
 
+use crate::source_words::{asks_for_input, first_persistent};
 use crate::status::Refusal;
+use mentat_input::{InputFault, read_numbers};
+use mentat_io::Source;
 use mpl_ast::program::Program;
 use mpl_ast::token::Tokens;
-use mpl_first_form::is_first_form;
 use mpl_lexer::{LexFault, lex};
-use mpl_mean::{Typed, tokens_are_few};
+use mpl_mean::{Typed, only_replies_are_awaited, tokens_are_few};
 use mpl_parse::{ParseFault, parse};
 use mpl_types::{TypeFault, check};
 use mpl_value::{BodyStart, NoMemory, Replies, Words, Yield};
@@ -28,8 +33,10 @@ pub const BUDGET: u64 = 1_000_000;
 pub enum Rejection {
     /// The source is not accepted.
     Refused(Refusal),
-    /// The program isn't of the first form.
-    Unbuilt,
+    /// The program has a persistent class. Its first word `persistent` begins at this byte.
+    Unbuilt(u32),
+    /// The input that the source asks for gives no numbers.
+    Input(InputFault),
     NoMemory,
 }
 
@@ -43,37 +50,53 @@ impl From<NoMemory> for Rejection {
     }
 }
 
-/// What the program of a source does.
-pub fn run(alloc: Global, source: &[u8]) -> Result<Yield, Rejection>
-    requires { length source.now ≤ most_source_bytes }
-    ensures ran { Ran source.now result }
-    ensures spent { IfOk result (λ y. y.end ≡ Spent → y.turns ≡ usual_budget + 1) }
-{
-    let typed = accept(alloc, source)?;
-    if !is_first_form(typed.program()) {
-        return Err(Rejection::Unbuilt);
-    }
-    let start = start_of_main(alloc);
-    let replies = Replies::new(alloc);
-    match walk(alloc, &typed, &start, &replies, BUDGET) {
-        Ok(done) => Ok(done),
-        Err(NoMemory) => Err(Rejection::NoMemory),
+impl From<InputFault> for Rejection {
+    ghost use Rattle.mentat_cmd.specs.declared.run.Rejection.TheVariants.{Input};
+
+    ghost from_gives = { λ fault e. e ≡ Input fault };
+
+    fn from(fault: InputFault) -> Rejection {
+        Rejection::Input(fault)
     }
 }
 
-// The program that a source is accepted as, or why it isn't.
-fn accept(alloc: Global, source: &[u8]) -> Result<Typed, Rejection>
+/// An accepted program, and whether its source asks for the input.
+#[derive(Drop)]
+struct Accepted {
+    typed: Typed,
+    asks: bool,
+}
+
+/// What the program of a source does.
+pub fn run<S: Source>(alloc: Global, source: &[u8], input: &mut S) -> Result<Yield, Rejection>
     requires { length source.now ≤ most_source_bytes }
-    ensures accepted { IfOk result (IsAccepted source.now) }
-    ensures fault { IfErr result (λ e. Ran source.now (Err e)) }
+    ensures ran { Ran source.now (input_of (S.left input.old) (S.left input.new) (S.faults input.old) (S.faults input.new) (input.new ≡ input.old)) result }
+    ensures spent { IfOk result (λ y. y.end ≡ Spent → y.turns ≡ usual_budget + 1) }
+    ensures never { IfOk result (λ y. y.end ≡ Waits → ⊥) }
+{
+    let accepted = accept(alloc, source)?;
+    let numbers = numbers_for(alloc, accepted.asks, input)?;
+    only_replies_are_awaited();
+    let done = walk_main(alloc, &accepted.typed, numbers)?;
+    Ok(done)
+}
+
+// The program of a source that runs, or why there is none.
+fn accept(alloc: Global, source: &[u8]) -> Result<Accepted, Rejection>
+    requires { length source.now ≤ most_source_bytes }
+    ensures built { IfOk result (λ a. IsBuilt source.now a.typed) }
+    ensures asks { IfOk result (λ a. a.asks ≡ spec.asks_for_input source.now) }
+    ensures fault { IfErr result (λ e. IsRejected source.now e) }
 {
     let tokens = tokens_of(alloc, source)?;
     tokens_are_few();
-    let program = program_of(alloc, &tokens)?;
-    match check(alloc, program) {
-        Ok(typed) => Ok(typed),
-        Err(TypeFault::Rule { rule, at }) => Err(Rejection::Refused(Refusal::Rule(rule, at))),
-        Err(TypeFault::NoMemory) => Err(Rejection::NoMemory),
+    let typed = typed_of(alloc, &tokens)?;
+    match first_persistent(typed.program().declarations.as_slice()) {
+        Some(at) => Err(Rejection::Unbuilt(at)),
+        None => Ok(Accepted {
+            typed,
+            asks: asks_for_input(tokens.list.as_slice()),
+        }),
     }
 }
 
@@ -81,7 +104,7 @@ fn accept(alloc: Global, source: &[u8]) -> Result<Typed, Rejection>
 fn tokens_of(alloc: Global, source: &[u8]) -> Result<Tokens, Rejection>
     requires { length source.now ≤ most_source_bytes }
     ensures tokens { IfOk result (λ t. (tokens_of source.now ≡ Ok t.list) × (t.end ≡ length source.now)) }
-    ensures fault { IfErr result (λ e. Ran source.now (Err e)) }
+    ensures fault { IfErr result (λ e. IsRejected source.now e) }
 {
     match lex(alloc, source) {
         Ok(tokens) => Ok(tokens),
@@ -92,12 +115,26 @@ fn tokens_of(alloc: Global, source: &[u8]) -> Result<Tokens, Rejection>
     }
 }
 
+// The accepted program that tokens are, or their first fault, or the first of their program.
+fn typed_of(alloc: Global, tokens: &Tokens) -> Result<Typed, Rejection>
+    requires { length tokens.now.list ≤ most_tokens }
+    ensures accepted { IfOk result (λ p. (source : List ℕ) → length source ≤ most_source_bytes → tokens_of source ≡ Ok tokens.now.list → IsAccepted source p) }
+    ensures fault { IfErr result (λ e. (source : List ℕ) → tokens_of source ≡ Ok tokens.now.list → tokens.now.end ≡ length source → IsRejected source e) }
+{
+    let program = program_of(alloc, tokens)?;
+    match check(alloc, program) {
+        Ok(typed) => Ok(typed),
+        Err(TypeFault::Rule { rule, at }) => Err(Rejection::Refused(Refusal::Rule(rule, at))),
+        Err(TypeFault::NoMemory) => Err(Rejection::NoMemory),
+    }
+}
+
 // The program that tokens are, or their first fault.
 fn program_of(alloc: Global, tokens: &Tokens) -> Result<Program, Rejection>
     requires { length tokens.now.list ≤ most_tokens }
     ensures text { IfOk result (λ p. spells p tokens.now.list ≡ true) }
     ensures light { IfOk result (λ p. is_light p ≡ true) }
-    ensures fault { IfErr result (λ e. (source : List ℕ) → tokens_of source ≡ Ok tokens.now.list → tokens.now.end ≡ length source → Ran source (Err e)) }
+    ensures fault { IfErr result (λ e. (source : List ℕ) → tokens_of source ≡ Ok tokens.now.list → tokens.now.end ≡ length source → IsRejected source e) }
 {
     match parse(alloc, tokens) {
         Ok(program) => Ok(program),
@@ -107,9 +144,30 @@ fn program_of(alloc: Global, tokens: &Tokens) -> Result<Program, Rejection>
     }
 }
 
-// The start of `main` without input.
-fn start_of_main(alloc: Global) -> BodyStart
-    ensures { result ≡ main_start [] }
+// The numbers of the input, or none for a source that doesn't ask for it.
+fn numbers_for<S: Source>(alloc: Global, asks: bool, input: &mut S) -> Result<Words, InputFault>
+    ensures { Giving asks (input_of (S.left input.old) (S.left input.new) (S.faults input.old) (S.faults input.new) (input.new ≡ input.old)) result }
+{
+    if !asks {
+        return Ok(Words::new(alloc));
+    }
+    read_numbers(alloc, input)
+}
+
+// What `main` does with these numbers, and no reply to any call.
+fn walk_main(alloc: Global, typed: &Typed, numbers: Words) -> Result<Yield, NoMemory>
+    ensures meaning { IfOk result (λ y. y ≡ direct_run typed.now numbers usual_budget) }
+    ensures spent { IfOk result (λ y. y.end ≡ Spent → y.turns ≡ usual_budget + 1) }
+{
+    let start = start_of_main(alloc, numbers);
+    let replies = Replies::new(alloc);
+    let done = walk(alloc, typed, &start, &replies, BUDGET)?;
+    Ok(done)
+}
+
+// The start of `main` with these numbers as its input.
+fn start_of_main(alloc: Global, numbers: Words) -> BodyStart
+    ensures { result ≡ main_start numbers }
 {
     BodyStart {
         member: None,
@@ -117,6 +175,6 @@ fn start_of_main(alloc: Global) -> BodyStart
         state: Words::new(alloc),
         object: 0,
         number: 0,
-        input: Words::new(alloc),
+        input: numbers,
     }
 }

@@ -33,14 +33,16 @@ pub enum Status {
     Spent,
     /// `main` waits for a reply that doesn't come.
     Stuck,
-    /// The file could not be read.
+    /// The file or the input could not be read.
     ReadFault,
     /// An output could not be written.
     WriteFault,
+    /// The word of the input that begins at this byte is no number of 64 bits.
+    BadInput(u64),
     NoMemory,
-    /// The file is above its limit.
+    /// The file is above its limit, or the input is.
     TooLong,
-    /// The file holds a program that doesn't run yet.
+    /// The program has a persistent class, and none such runs yet. Its first word `persistent` begins at this byte.
     Unbuilt(u64),
 }
 
@@ -60,6 +62,7 @@ impl Status {
             Status::Stuck => 5,
             Status::ReadFault => 6,
             Status::WriteFault => 7,
+            Status::BadInput(_) => 8,
             Status::NoMemory => 9,
             Status::TooLong => 10,
             Status::Unbuilt(_) => 13,

@@ -1,14 +1,2 @@
-pub mod Binding
-pub mod Calling
-pub mod StepResults
-pub mod Declaring
-pub mod Finding
-pub mod Mains
-pub mod Numbered
-pub mod BuiltParts
-pub mod Passing
-pub mod Reading
-pub mod Running
-pub mod Starting
-pub mod Steps
-pub mod Values
+pub mod OneYield
+pub mod Meanings

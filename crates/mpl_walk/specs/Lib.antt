@@ -1,1 +1,1 @@
-pub mod Internal
+-- The contract of `walk` cites the meaning and what the crates below say.

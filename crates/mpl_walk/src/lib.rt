@@ -1,16 +1,6 @@
-//! Runs a body in place, the plain way.
+//! Runs a body in place, the plain way: the code of its program, step by step.
 #![tactic(auto)]
 
-mod body;
-mod call;
-mod evaluate;
-mod held;
-mod lookup;
-mod member;
-mod name;
-mod pass;
-mod print;
-mod setting;
-mod stop;
+mod walk_body;
 
-pub use body::walk;
+pub use walk_body::walk;

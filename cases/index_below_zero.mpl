@@ -1,0 +1,2 @@
+int main() { int a[3];
+print(a[0 - 1]); }

@@ -1,0 +1,1 @@
+printf 'x'; head -c 2097152 /dev/zero | tr '\0' ' '

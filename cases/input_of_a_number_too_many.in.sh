@@ -1,0 +1,1 @@
+awk 'BEGIN { for (i = 0; i < 65537; i++) print 1 }'

@@ -1,0 +1,1 @@
+printf '1 2'; head -c 2097149 /dev/zero | tr '\0' ' '

@@ -1,0 +1,2 @@
+int main() { }
+persistent mentat class cell { int get() { rtf(1); } };

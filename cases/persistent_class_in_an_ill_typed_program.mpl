@@ -1,0 +1,1 @@
+persistent mentat class cell { int get() { rtf(1); } }; int main() { print(x); }

@@ -1,0 +1,2 @@
+-- What private functions say of their results.
+pub mod Ran

@@ -1,0 +1,13 @@
+pub mod Classes
+pub mod Words
+pub mod ByNumbers
+pub mod Blocks
+pub mod Writes
+pub mod Standing
+pub mod Variables
+pub mod Adding
+pub mod AddingMembers
+pub mod HavingCode
+pub mod Mains
+pub mod Numbers
+pub mod Seeing

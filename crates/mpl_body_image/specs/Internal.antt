@@ -1,0 +1,11 @@
+-- What the private functions say of their results. The contract of `image_of` needs none of it.
+pub mod SeenLocals
+pub mod SeenClasses
+pub mod Outlines
+pub mod SeenParts
+pub mod Parts
+pub mod SeenScope
+pub mod LevelTrees
+pub mod ByNumber
+pub mod Writing
+pub mod Bodies

@@ -1,0 +1,18 @@
+-- Words on what is found among declarations and items.
+use Rattle.std.specs.Prelude.{ℕ, Bool, true, false, Option, Some, None}
+
+abbrev pub or_else : {A : Type 0} → Option A → Option A → Option A
+or_else None other = other
+or_else (Some a) other = Some a
+
+-- it is found here, or by a higher number, or by this one
+abbrev pub numbered_on : Option Bool → ℕ → Option ℕ → Option ℕ → Option ℕ
+numbered_on None number higher same = same
+numbered_on (Some true) number higher same = Some number
+numbered_on (Some false) number higher same = higher
+
+-- it is found here by this test, or further on; or there is nothing here
+abbrev pub found_on : {A : Type 0} → Option A → Bool → Option A → Option A → Option A
+found_on None test further same = same
+found_on (Some a) true further same = Some a
+found_on (Some a) false further same = further

@@ -1,0 +1,3 @@
+-- How an image is laid out.
+pub mod Laid
+pub mod Internal

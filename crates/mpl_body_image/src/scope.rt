@@ -1,0 +1,180 @@
+ghost use Rattle.std.specs.Prelude.{◌≡◌, ℕ, Some, option_map, IfOk};
+ghost use Rattle.mpl_mean.specs.Meaning.Layout.{Member, member_named, part_named};
+ghost use Rattle.mpl_mean.specs.Meaning.PlaceMeaning.{is_bool};
+ghost use Rattle.mpl_body_code.specs.Scopes.{base_of_slot, class_found, found_at, found_field, found_name, found_part, slot_named, spot_of};
+ghost use Rattle.mpl_body_image.specs.Internal.SeenClasses.{class_seen};
+ghost use Rattle.mpl_body_image.specs.Internal.SeenLocals.{slot_seen};
+ghost use Rattle.mpl_body_image.specs.Internal.SeenParts.{part_seen};
+ghost use Rattle.mpl_body_image.specs.Internal.SeenScope.{env_seen, found_seen, members_seen, parts_seen};
+
+use crate::layout::{Part, part_named, parts_of_type, sum, words_of};
+use crate::locals::{Locals, Slot};
+use crate::outline::{Class, Outline, member_id};
+use mpl_ast::expression::Target;
+use mpl_ast::statement::TypeName;
+use mpl_body_code::{Base, Spot};
+use mpl_value::NoMemory;
+use std::alloc::Global;
+
+/// What an object has.
+#[derive(Drop)]
+pub struct Object<'a> {
+    pub class: Class<'a>,
+    pub parts: Vec<Part<'a>>,
+}
+
+/// What surrounds a statement.
+#[derive(Drop)]
+pub struct Scope<'o, 'a> {
+    pub alloc: Global,
+    pub outline: &'o Outline<'a>,
+    /// Where the body has one.
+    pub object: Option<&'o Object<'a>>,
+    pub locals: Locals<'a>,
+}
+
+/// What a place stands for.
+#[derive(Clone, Copy)]
+pub struct Found<'a> {
+    pub slot: Option<Slot<'a>>,
+    pub offset: usize,
+    pub words: usize,
+    pub type_name: &'a TypeName,
+    pub is_whole: bool,
+}
+
+// ---- places
+
+fn own_part<'o, 'a>(object: Option<&'o Object<'a>>, name: &[u8]) -> Option<Part<'a>>
+    ensures { option_map part_seen result ≡ part_named name.now (parts_seen object.entry) }
+{
+    match object {
+        Some(object) => part_named(object.parts.as_slice(), name),
+        None => None,
+    }
+}
+
+fn found_part<'a>(
+    slot: Option<Slot<'a>>,
+    offset: usize,
+    part: Option<Part<'a>>,
+) -> Result<Option<Found<'a>>, NoMemory>
+    ensures { IfOk result (λ found. option_map found_seen found ≡ found_part (option_map slot_seen slot.entry) offset (option_map part_seen part.entry)) }
+{
+    match part {
+        Some(part) => Ok(Some(Found {
+            slot,
+            offset: sum(offset, part.offset)?,
+            words: part.words,
+            type_name: part.type_name,
+            is_whole: false,
+        })),
+        None => Ok(None),
+    }
+}
+
+fn found_name<'o, 'a>(scope: &Scope<'o, 'a>, name: &'a [u8]) -> Result<Option<Found<'a>>, NoMemory>
+    ensures { IfOk result (λ found. option_map found_seen found ≡ found_name (env_seen scope.now) (slot_named name.now (env_seen scope.now).scope) name.now) }
+{
+    match scope.locals.find(name) {
+        Some(slot) => {
+            let shape = slot.shape;
+            let words = words_of(scope.outline, shape.type_name, shape.dimension)?;
+            Ok(Some(Found {
+                slot: Some(slot),
+                offset: 0,
+                words,
+                type_name: shape.type_name,
+                is_whole: true,
+            }))
+        }
+        None => found_part(None, 0, own_part(scope.object, name)),
+    }
+}
+
+fn found_field<'o, 'a>(
+    scope: &Scope<'o, 'a>,
+    name: &[u8],
+    found: Found<'a>,
+) -> Result<Option<Found<'a>>, NoMemory>
+    ensures { IfOk result (λ field. option_map found_seen field ≡ found_field (env_seen scope.now) name.now (Some (found_seen found.entry))) }
+{
+    let parts = parts_of_type(scope.alloc, scope.outline, found.type_name)?;
+    found_part(found.slot, found.offset, part_named(parts.as_slice(), name))
+}
+
+pub fn found_at<'o, 'a>(
+    scope: &Scope<'o, 'a>,
+    target: &'a Target,
+) -> Result<Option<Found<'a>>, NoMemory>
+    ensures { IfOk result (λ found. option_map found_seen found ≡ found_at (env_seen scope.now) target.now) }
+{
+    match target {
+        Target::Variable(_, variable) => found_name(scope, variable.text.as_slice()),
+        Target::Field(_, variable, field) => match found_name(scope, variable.text.as_slice())? {
+            Some(found) => found_field(scope, field.text.as_slice(), found),
+            None => Ok(None),
+        },
+    }
+}
+
+/// The class of what a place stands for.
+pub fn class_found<'o, 'a>(scope: &Scope<'o, 'a>, found: Found<'a>) -> Option<Class<'a>>
+    ensures { option_map class_seen result ≡ class_found (env_seen scope.now) (Some (found_seen found.entry)) }
+{
+    match found.type_name {
+        TypeName::Int(_) => None,
+        TypeName::Bool(_) => None,
+        TypeName::Named(_, name) => scope.outline.class_named(name.text.as_slice()),
+    }
+}
+
+pub fn spot_of(found: Found) -> Spot
+    ensures { result ≡ spot_of (found_seen found.entry) }
+{
+    Spot {
+        base: base_of(found.slot),
+        offset: found.offset,
+        words: found.words,
+        is_bool: is_bool(found.type_name),
+    }
+}
+
+fn base_of(slot: Option<Slot>) -> Base
+    ensures { result ≡ base_of_slot (option_map slot_seen slot.entry) }
+{
+    match slot {
+        Some(slot) => Base::Slot(slot.number),
+        None => Base::State,
+    }
+}
+
+pub fn is_bool(type_name: &TypeName) -> bool
+    ensures { result ≡ is_bool type_name.now }
+{
+    match type_name {
+        TypeName::Int(_) => false,
+        TypeName::Bool(_) => true,
+        TypeName::Named(..) => false,
+    }
+}
+
+/// The number of a member of a class.
+pub fn member_of(class: Class, name: &[u8]) -> Result<Option<usize>, NoMemory>
+    ensures { IfOk result (λ id. id ≡ option_map (λ (m : Member). m.id) (member_named name.now (class_seen class.entry).members)) }
+{
+    member_id(class.items, class.first, name)
+}
+
+/// The number of a member that `self` has.
+pub fn own_member<'o, 'a>(
+    object: Option<&'o Object<'a>>,
+    name: &[u8],
+) -> Result<Option<usize>, NoMemory>
+    ensures { IfOk result (λ id. id ≡ option_map (λ (m : Member). m.id) (member_named name.now (members_seen object.entry))) }
+{
+    match object {
+        Some(object) => member_of(object.class, name),
+        None => Ok(None),
+    }
+}

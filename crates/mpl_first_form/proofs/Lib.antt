@@ -1,2 +1,0 @@
-mod Declarations
-mod Lists
