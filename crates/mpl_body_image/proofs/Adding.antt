@@ -1,14 +1,12 @@
 -- Bodies that are added one after another.
-use Rattle.std.proofs.Common.{◌≡◌, ℕ, ◌+◌, List, [], ◌∷◌, ◌++◌, length, append_assoc, refl, ap, ap₂, sym, subst, ◌∙◌}
-use Rattle.std.proofs.lemmas.List.{append-nil, length-append}
+use Rattle.std.proofs.Common.{◌≡◌, ℕ, ◌+◌, List, [], ◌∷◌, ◌++◌, length, append_assoc, refl, ap, ◌∙◌}
+use Rattle.std.proofs.lemmas.List.{length-append}
 use Rattle.mpl_ast.specs.declared.class.Item.{Item}
 use Rattle.mpl_ast.specs.declared.class.Item.TheVariants as item
 use Rattle.mpl_ast.specs.declared.program.Declaration.{Declaration}
-use Rattle.mpl_mean.specs.Meaning.Layout.{Class, Function, Member, formals_of, members_from}
+use Rattle.mpl_mean.specs.Meaning.Layout.{Class, Member, formals_of, members_from}
 use Rattle.mpl_body_code.specs.Codes.{Code}
-use Rattle.mpl_body_code.specs.declared.instruction.FunctionCode.{FunctionCode}
-use Rattle.mpl_body_code.specs.declared.instruction.MemberCode.{MemberCode}
-use Rattle.mpl_body_image.specs.Laid.{function_code, function_entries, function_entry, functions_code, member_code, member_entries, member_entry, members_code}
+use Rattle.mpl_body_image.specs.Laid.{member_code, member_entries, member_entry, members_code}
 
 -- ---- one more in front of the others
 

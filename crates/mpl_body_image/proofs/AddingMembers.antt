@@ -1,15 +1,14 @@
 -- A member of a class that is added.
-use Rattle.std.proofs.Common.{◌≡◌, ℕ, ◌+◌, List, [], ◌∷◌, ◌++◌, length, map, Option, append_assoc, refl, ap, ap₂, sym, ◌∙◌}
+use Rattle.std.proofs.Common.{◌≡◌, ℕ, ◌+◌, List, [], ◌∷◌, ◌++◌, length, map, Option, ap, ap₂, ◌∙◌}
 use Rattle.std.specs.Borrow.{Bor}
 use Rattle.mpl_ast.specs.declared.class.Formal.{Formal}
 use Rattle.mpl_ast.specs.declared.class.Item.{Item}
-use Rattle.mpl_ast.specs.declared.class.Item.TheVariants as item
 use Rattle.mpl_ast.specs.declared.program.Declaration.{Declaration}
 use Rattle.mpl_ast.specs.declared.statement.Statement.{Statement}
 use Rattle.mpl_mean.specs.Meaning.Layout.{Class, Member, members_from}
 use Rattle.mpl_plain.specs.StatementTrees.{statement_trees}
-use Rattle.mpl_body_code.specs.Codes.{Code, body_code, finish_of}
-use Rattle.mpl_body_code.specs.Scopes.{Env, formal_shape}
+use Rattle.mpl_body_code.specs.Codes.{Code, body_code}
+use Rattle.mpl_body_code.specs.Scopes.{formal_shape}
 use Rattle.mpl_body_code.specs.declared.instruction.MemberCode.{MemberCode}
 use Rattle.mpl_body_image.specs.Internal.Bodies.{Sees, env_with}
 use Rattle.mpl_body_image.specs.Laid.{member_code, member_entries, member_entry, members_code}

@@ -1,5 +1,5 @@
 -- What is declared in a block goes with it.
-use Rattle.std.proofs.Common.{◌≡◌, ℕ, ◌+◌, ◌-◌, List, [], ◌∷◌, ◌++◌, length, drop, map, append_assoc, arith, refl, ap, ap₂, sym, subst, ◌∙◌}
+use Rattle.std.proofs.Common.{◌≡◌, ◌-◌, List, [], ◌∷◌, ◌++◌, length, drop, append_assoc, arith, refl, ap, sym, ◌∙◌}
 use Rattle.std.proofs.lemmas.List.{length-append}
 use Rattle.mpl_ast.specs.declared.expression.Conjunction.{Conjunction}
 use Rattle.mpl_ast.specs.declared.expression.Conjunction.TheOpen.{Place-F}

@@ -3,8 +3,7 @@ use Rattle.std.proofs.Common.{◌≡◌, ℕ, suc, List, [], ◌∷◌, length, 
 use Rattle.mpl_ast.specs.declared.expression.Expression.{Expression}
 use Rattle.mpl_ast.specs.declared.flow.Flow.{Flow}
 use Rattle.mpl_mean.specs.Meaning.Layout.{Member}
-use Rattle.mpl_body_code.specs.Codes.{Code, count_of, count_of_flows, object_code, own_code, passed_code, regular_code}
-use Rattle.mpl_body_code.specs.Scopes.{Slot}
+use Rattle.mpl_body_code.specs.Codes.{Code, count_of, count_of_flows, object_code, own_code, regular_code}
 use Rattle.mpl_plain.specs.ExpressionTrees.{expression_tree}
 use Rattle.mpl_plain.specs.ExpressionTrees as e
 use Rattle.mpl_plain.specs.FlowTrees.{flow_tree}

@@ -1,5 +1,5 @@
 -- Classes one after another, and the numbers of their members.
-use Rattle.std.proofs.Common.{◌≡◌, ℕ, suc, ◌+◌, List, [], ◌∷◌, ◌++◌, length, map, append_assoc, arith, refl, ap, ap₂, sym, ◌∙◌}
+use Rattle.std.proofs.Common.{◌≡◌, ℕ, suc, ◌+◌, List, [], ◌∷◌, ◌++◌, length, map, append_assoc, refl, ap, ap₂, ◌∙◌}
 use Rattle.std.proofs.lemmas.List.{length-append, map-append}
 use Rattle.mpl_ast.specs.declared.class.Item.{Item}
 use Rattle.mpl_ast.specs.declared.class.Item.TheVariants as item

@@ -1,12 +1,12 @@
 -- A laid image has the code of its program.
-use Rattle.std.proofs.Common.{◌≡◌, ℕ, ◌+◌, Bool, true, false, List, [], ◌∷◌, ◌++◌, length, Option, Some, None, if◌then◌else◌, map, append_assoc, arith, refl, ap, sym, subst, ◌∙◌}
+use Rattle.std.proofs.Common.{◌≡◌, ℕ, ◌+◌, Bool, true, List, [], ◌++◌, length, Some, if◌then◌else◌, map, append_assoc, arith, refl, ap, sym, subst, ◌∙◌}
 use Rattle.std.proofs.lemmas.List.{append-nil, length-append}
-use Rattle.std.specs.Prelude.{nat_eq, slice_get}
+use Rattle.std.specs.Prelude.{slice_get}
 use Rattle.mpl_ast.specs.declared.program.Declaration.{Declaration}
 use Rattle.mpl_ast.specs.declared.program.Program.{Program}
 use Rattle.mpl_value.specs.declared.body.MemberId.{MemberId}
 use Rattle.mpl_mean.specs.Laws.Sizes.{member_of_id}
-use Rattle.mpl_mean.specs.Meaning.BodyMeaning.{main_statements, member_of_classes, member_or, of_object}
+use Rattle.mpl_mean.specs.Meaning.BodyMeaning.{main_statements}
 use Rattle.mpl_mean.specs.Meaning.Layout as layout
 use Rattle.mpl_mean.specs.Meaning.Layout.{Class, Function, Member, class_named, classes_of, function_named, member_named, member_numbered, parts_of}
 use Rattle.mpl_mean.specs.TypeRules.Rules.{is_typed}
@@ -14,14 +14,12 @@ use Rattle.mpl_plain.specs.StatementTrees.{StatementTrees, statement_trees}
 use Rattle.mpl_body_code.proofs.FittingBodies.{function_fits, main_fits, numbered_fits, regular_fits}
 use Rattle.mpl_mean.proofs.Sizes.SizedPrograms.{well_program}
 use Rattle.mpl_body_code.specs.Arity.{StatementsFit}
-use Rattle.mpl_body_code.specs.Codes.{Code, From, body_code, function_env, main_env, member_env, regular_env}
+use Rattle.mpl_body_code.specs.Codes.{From, body_code, function_env, main_env, member_env, regular_env}
 use Rattle.mpl_body_code.specs.Images.{FunctionAt, HasCode, IsBodyCode, IsMemberCode, MemberAt}
 use Rattle.mpl_body_code.specs.Machine.{Image, Setting}
 use Rattle.mpl_body_code.specs.Scopes.{Env, formal_shape}
-use Rattle.mpl_body_code.specs.declared.instruction.FunctionCode.{FunctionCode}
-use Rattle.mpl_body_code.specs.declared.instruction.MemberCode.{MemberCode}
-use Rattle.mpl_body_image.specs.Laid.{class_entries, classes_code, function_code, function_entries, function_entry, functions_code, laid, main_code, main_entry, member_code, member_entry}
-use Rattle.mpl_body_image.proofs.Standing.{AmongClasses, FunctionPlaced, MemberPlaced, Part, class_among, class_placed, function_placed, id_among, named_among, part_front, part_rest, part_stands}
+use Rattle.mpl_body_image.specs.Laid.{classes_code, function_entry, functions_code, laid, main_code, main_entry, member_entry}
+use Rattle.mpl_body_image.proofs.Standing.{AmongClasses, MemberPlaced, Part, class_among, class_placed, function_placed, id_among, named_among, part_stands}
 
 -- ---- the parts of the whole
 

@@ -1,5 +1,5 @@
 -- `main` among declarations.
-use Rattle.std.proofs.Common.{◌≡◌, Bool, true, false, List, [], ◌∷◌, Some, if◌then◌else◌, refl, ap}
+use Rattle.std.proofs.Common.{◌≡◌, Bool, true, false, List, ◌∷◌, Some, if◌then◌else◌, refl, ap}
 use Rattle.std.specs.Prelude.{codes}
 use Rattle.mpl_ast.specs.declared.program.Declaration.{Declaration}
 use Rattle.mpl_ast.specs.declared.program.Declaration.TheVariants as declaration

@@ -1,5 +1,5 @@
 -- The formals of a member by its number.
-use Rattle.std.proofs.Common.{◌≡◌, ℕ, List, [], ◌∷◌, map, option_map, Option, Some, None, refl}
+use Rattle.std.proofs.Common.{◌≡◌, ℕ, List, ◌∷◌, option_map, Option, Some, None, refl}
 use Rattle.mpl_ast.specs.declared.class.Formal.{Formal}
 use Rattle.mpl_mean.specs.Meaning.BodyMeaning.{member_of_classes, member_or}
 use Rattle.mpl_mean.specs.Meaning.Layout.{Class, Member, member_numbered}

@@ -1,5 +1,5 @@
 -- Code stands where it was laid.
-use Rattle.std.proofs.Common.{◌≡◌, ◌<◌, ℕ, zero, suc, ◌+◌, Bool, true, false, List, [], ◌∷◌, ◌++◌, length, Option, Some, None, if◌then◌else◌, ◌⊎◌, inl, inr, append_assoc, add_assoc, arith, refl, ap, ap₂, sym, subst, ◌∙◌}
+use Rattle.std.proofs.Common.{◌≡◌, ℕ, zero, suc, ◌+◌, Bool, true, false, List, [], ◌∷◌, ◌++◌, length, Option, Some, None, if◌then◌else◌, ◌⊎◌, inl, inr, append_assoc, arith, refl, ap, sym, subst, ◌∙◌}
 use Rattle.std.proofs.lemmas.List.{length-append}
 use Rattle.std.specs.Prelude.{nat_eq, slice_get}
 use Rattle.std.specs.Str.{bytes_eq}
@@ -12,7 +12,6 @@ use Rattle.mpl_mean.specs.Meaning.BodyMeaning.{member_of_classes, member_or}
 use Rattle.mpl_mean.specs.Meaning.Layout.{Class, Function, Member, class_named, classes_from, formals_of, function_named, is_regular, member_named, member_numbered, members_from, state_of}
 use Rattle.mpl_body_code.specs.Codes.{Code, From, number_of_function}
 use Rattle.mpl_body_code.specs.declared.instruction.FunctionCode.{FunctionCode}
-use Rattle.mpl_body_code.specs.declared.instruction.Instruction.{Instruction}
 use Rattle.mpl_body_code.specs.declared.instruction.MemberCode.{MemberCode}
 use Rattle.mpl_body_image.specs.Laid.{class_entries, classes_code, function_code, function_entries, function_entry, functions_code, member_code, member_entries, member_entry, members_code}
 

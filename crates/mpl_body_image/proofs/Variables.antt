@@ -1,16 +1,15 @@
 -- The variables of a scope by their names.
-use Rattle.std.proofs.Common.{◌≡◌, ◌<◌, ◌≤◌, ℕ, zero, suc, ◌+◌, ◌-◌, Bool, true, false, List, [], ◌∷◌, ◌++◌, cond, drop, length, map, reverse, Option, Some, None, if◌then◌else◌, refl, ap, ap₂, sym, subst, arith, ◌∙◌}
-use Rattle.std.proofs.lemmas.List.{length-append, length-drop, length-map, length-reverse, reverse-append, reverse-reverse}
-use Rattle.std.specs.Prelude.{MatchOption, option_map, slice_get}
+use Rattle.std.proofs.Common.{◌≡◌, ◌<◌, ◌≤◌, ℕ, zero, suc, ◌+◌, ◌-◌, Bool, true, false, List, [], ◌∷◌, ◌++◌, cond, drop, length, reverse, Option, Some, None, if◌then◌else◌, refl, ap, sym, subst, arith, ◌∙◌}
+use Rattle.std.proofs.lemmas.List.{length-drop, length-map, length-reverse, reverse-append, reverse-reverse}
+use Rattle.std.specs.Prelude.{slice_get}
 use Rattle.std.proofs.lemmas.Slice.Eq.{bytes_eq-Decides}
 use Rattle.std.specs.Str.{bytes_eq}
 use Rattle.mpl_mean.proofs.Truth.{some_is}
 use Rattle.mpl_body_code.specs.Scopes as code
 use Rattle.mpl_body_code.specs.Scopes.{slot_named}
-use Rattle.mpl_body_image.specs.Internal.SeenLocals.{Hides, if_any, newest_first, number_named, numbered, shape_seen, shapes_seen, slot_seen}
+use Rattle.mpl_body_image.specs.Internal.SeenLocals.{Hides, if_any, newest_first, number_named, numbered, shape_seen, shapes_seen}
 use Rattle.mpl_body_image.specs.declared.locals.Local.{Local}
 use Rattle.mpl_body_image.specs.declared.locals.Newest.{Newest}
-use Rattle.mpl_body_image.specs.declared.locals.Slot.{Slot}
 use Rattle.mpl_body_image.proofs.Standing.{get_front, get_left}
 
 pub set_numbered : (b : Bool) (number : Option ℕ) (o p : Option (Option ℕ)) → p ≡ cond b (Some number) o → if_any p ≡ (if b then number else if_any o)

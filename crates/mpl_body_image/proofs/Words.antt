@@ -1,8 +1,7 @@
 -- Words and parts, one field after another.
-use Rattle.std.proofs.Common.{◌≡◌, ℕ, ◌+◌, List, [], ◌∷◌, ◌++◌, map, append_assoc, add_assoc, arith, refl, ap, ap₂, sym, ◌∙◌}
+use Rattle.std.proofs.Common.{◌≡◌, ℕ, ◌+◌, List, [], ◌∷◌, ◌++◌, map, append_assoc, add_assoc, arith, refl, ap, sym, ◌∙◌}
 use Rattle.std.proofs.lemmas.List.{map-append}
 use Rattle.std.proofs.lemmas.List.Sums.{sum_by-cons}
-use Rattle.std.specs.Prelude.{sum_by}
 use Rattle.mpl_ast.specs.declared.class.Field.{Field}
 use Rattle.mpl_ast.specs.declared.class.FieldName.{FieldName}
 use Rattle.mpl_ast.specs.declared.program.Declaration.{Declaration}

@@ -1,5 +1,5 @@
 -- Statements within others: their code, and the variables that go with them.
-use Rattle.std.proofs.Common.{◌≡◌, ℕ, suc, ◌+◌, List, [], ◌∷◌, ◌++◌, length, Result, Ok, Err, append_assoc, refl, ap, ap₂, sym, subst, ◌∙◌}
+use Rattle.std.proofs.Common.{◌≡◌, ℕ, suc, [], ◌∷◌, ◌++◌, length, Result, Ok, Err, append_assoc, ap, ap₂, sym, subst, ◌∙◌}
 use Rattle.std.specs.Prelude.{OnOk}
 use Rattle.mpl_value.specs.declared.memory.NoMemory.{NoMemory}
 use Rattle.mpl_plain.specs.ExpressionTrees.{ExpressionTree}
@@ -8,7 +8,7 @@ use Rattle.mpl_plain.specs.StatementTrees as t
 use Rattle.mpl_body_code.specs.Codes.{Code, behind, expression_code, loop_code, scope_code, statement_code, statements_code}
 use Rattle.mpl_body_code.specs.Scopes.{Env}
 use Rattle.mpl_body_code.specs.declared.instruction.Instruction.TheVariants as instruction
-use Rattle.mpl_body_image.specs.Internal.Writing.{Wrote, WroteAll, WroteCode, behind_all, left}
+use Rattle.mpl_body_image.specs.Internal.Writing.{Wrote, WroteAll, WroteCode, left}
 use Rattle.mpl_body_image.proofs.Blocks.{left_all, left_behind}
 
 pub if_written : {P Q : Type 0} (r : Result (Unit {0}) NoMemory) → (P → Q) → OnOk r P → OnOk r Q

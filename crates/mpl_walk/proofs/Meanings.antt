@@ -1,7 +1,5 @@
 -- What a run of a laid image comes to is what the body means.
-use Rattle.std.proofs.Common.{◌≡◌, ◌≢◌, ◌+◌, ℕ, List, [], ◌∷◌, drop, map, option_map, take, None, Some, Option, Result, Ok, Err, refl, ap, sym, subst, ◌∙◌, ℤ, true}
-use Rattle.std.specs.FinMap.{FinMap}
-use Rattle.std.specs.Ordering.{nat_cmp}
+use Rattle.std.proofs.Common.{◌≡◌, ◌+◌, ℕ, List, [], ◌∷◌, drop, map, option_map, take, None, Some, Option, Result, Ok, Err, refl, ap, sym, subst, ◌∙◌, ℤ, true}
 use Rattle.std.specs.Prelude.{IfOk, slice_get}
 use Rattle.std.proofs.lemmas.Bool.{eqb-true}
 use Rattle.mpl_ast.specs.declared.class.Formal.{Formal}

@@ -1,5 +1,5 @@
 -- However many steps are allowed, a machine comes to one yield.
-use Rattle.std.proofs.Common.{◌≡◌, ℕ, zero, suc, None, Some, Option, sym, ◌∙◌}
+use Rattle.std.proofs.Common.{◌≡◌, ℕ, zero, suc, Some, sym, ◌∙◌}
 use Rattle.mpl_value.specs.declared.body.Yield.{Yield}
 use Rattle.mpl_mean.proofs.Truth.{some_is}
 use Rattle.mpl_body_code.specs.Images.{ComesTo, starts}

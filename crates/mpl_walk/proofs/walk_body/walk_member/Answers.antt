@@ -1,4 +1,4 @@
-use Rattle.std.proofs.Common.{◌≡◌, FitsSigned, ap, map, of_z, to_z, w64, ◌∙◌}
+use Rattle.std.proofs.Common.{◌≡◌, ap, map, of_z, to_z, w64, ◌∙◌}
 use Rattle.std.proofs.lemmas.Int.{to_z-of_z}
 use Rattle.mpl_value.specs.declared.body.Arg.TheVariants.{Know}
 use Rattle.mpl_body_code.specs.Images as images

@@ -1,4 +1,4 @@
-use Rattle.std.proofs.Common.{◌≡◌, ◌<◌, ◌-◌, [], ◌∷◌, ◌++◌, Some, ap, arith, rules, ◌∙◌}
+use Rattle.std.proofs.Common.{◌≡◌, ◌<◌, ◌-◌, ◌++◌, Some, ap, arith, rules, ◌∙◌}
 use Rattle.std.specs.Prelude.{option_to_list, slice_index_or, vec_len}
 use Rattle.mpl_body_image.proofs.Variables.{forgot}
 use Rattle.mpl_body_image.proofs.locals.Locals.forget.Goals as goal
