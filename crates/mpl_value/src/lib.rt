@@ -8,6 +8,7 @@ mod listed;
 mod memory;
 mod numbers;
 mod replies;
+mod roomy;
 
 pub use arithmetic::{add, div, mul, neg, rem, sub};
 pub use body::{Arg, Args, BodyEnd, BodyResult, BodyStart, CallMade, Calls, MemberId, Yield};
@@ -16,3 +17,4 @@ pub use listed::Listed;
 pub use memory::NoMemory;
 pub use numbers::{Bytes, Numbers, Words};
 pub use replies::Replies;
+pub use roomy::RoomyWords;

@@ -44,6 +44,13 @@ impl<T: Copy> Numbers<T> {
         Ok(Numbers { items })
     }
 
+    /// The numbers of a vector, in the memory that it has.
+    pub(crate) fn over(items: Vec<T>) -> Numbers<T>
+        ensures { result ≡ items.items }
+    {
+        Numbers { items }
+    }
+
     /// One more number, at the end.
     pub fn push(&mut self, item: T) -> Result<(), NoMemory>
         ensures ok { OnOk result (self.new ≡ self.old ++ item ∷ []) }
