@@ -1,8 +1,10 @@
 pub mod Limits
 pub mod Levels
 pub mod Text
+pub mod Plain
 pub mod TypeRules
 pub mod Meaning
+pub mod Pending
 pub mod Laws
 pub mod FirstForms
 pub mod SmallPrograms

@@ -1,6 +1,5 @@
 -- Which programs are well typed: the nodes of a program, and the 26 rules.
-pub mod Expr
-pub mod Stmt
+pub mod Operations
 pub mod Types
 pub mod Scopes
 pub mod Typing

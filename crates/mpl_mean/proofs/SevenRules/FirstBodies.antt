@@ -9,13 +9,13 @@ use Rattle.mpl_ast.specs.declared.statement.Dimension.{Dimension}
 use Rattle.mpl_ast.specs.declared.statement.Statement.{Statement}
 use Rattle.mpl_ast.specs.declared.statement.TypeName.{TypeName}
 use Rattle.mpl_ast.specs.declared.statement.TypeName.TheVariants as type
-use Rattle.mpl_mean.specs.TypeRules.Stmt.{Stmt, Stmts, NewLocal, stmt_of, in_turn}
-use Rattle.mpl_mean.specs.TypeRules.Stmt as stmt
+use Rattle.mpl_mean.specs.Plain.Stmt.{Stmt, Stmts, NewLocal, stmt_of, in_turn}
+use Rattle.mpl_mean.specs.Plain.Stmt as stmt
 use Rattle.mpl_mean.specs.TypeRules.ExpressionRules.{operands_agree, can_be_printed, right_side_agrees, initialiser_agrees}
 use Rattle.mpl_mean.specs.FirstForms.FirstForm.{is_first_statement, is_int_result}
 use Rattle.mpl_mean.specs.TypeRules.NameRules.{name_is_known}
 use Rattle.mpl_mean.specs.TypeRules.Nodes.{expr_nodes}
-use Rattle.mpl_mean.specs.TypeRules.Expr.{Expr}
+use Rattle.mpl_mean.specs.Plain.Expr.{Expr}
 use Rattle.mpl_mean.specs.TypeRules.Rules.{rule}
 use Rattle.mpl_mean.specs.TypeRules.Scopes.{Environment, InMain, InMember, behind, with_last, is_in_main}
 use Rattle.mpl_mean.specs.TypeRules.SizeRules.{type_may_stand, meant_may_stand}
@@ -124,7 +124,7 @@ local_after environment h t name (Some dimension) initialiser e = absurd e
 
 stmt_same : (a : Stmt) → IsFirstStmt a → (environment : Environment) → InFirstMain environment → AllSame (stmt_walk a environment).nodes
 stmt_same (stmt.Locals t (new ∷ [])) e environment h = local_same environment h t new.name new.dimension new.initialiser e
-stmt_same (stmt.Prints at ps) e environment h = (with_one at (rule 23 speaks_in_main) _ (ap is_in_main h.main), prints_same environment h.first ps e)
+stmt_same (stmt.Prints at ps) e environment h = (with_one at.span.from (rule 23 speaks_in_main) _ (ap is_in_main h.main), prints_same environment h.first ps e)
 stmt_same other e environment h = absurd e
 
 stmt_after : (a : Stmt) → IsFirstStmt a → (environment : Environment) → InFirstMain environment → InFirstMain (stmt_walk a environment).after
@@ -157,7 +157,7 @@ can_give_int environment (Typed at (type.Named t n)) e value h = absurd cc
 pub result_same : (a : Stmt) → IsResult a → (environment : Environment) → FirstEnvironment environment → (result : ResultType) → is_int_result result ≡ true → environment.body ≡ InMember result
     → AllSame (stmt_walk a environment).nodes
 result_same (stmt.Gives at value) e environment first result int body = (
-  with_one at (rule 24 rtf_agrees) _ (ap (λ body. can_give environment body value) body ∙ can_give_int environment result int value (type_first environment first value e)),
+  with_one at.span.from (rule 24 rtf_agrees) _ (ap (λ body. can_give environment body value) body ∙ can_give_int environment result int value (type_first environment first value e)),
   expr_same environment first value e,
 )
 result_same other e environment first result int body = absurd e

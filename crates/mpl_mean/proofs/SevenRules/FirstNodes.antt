@@ -1,5 +1,5 @@
 -- At the nodes inside the bodies of a program of the first form, only the seven rules of that form can fail.
-use Rattle.std.proofs.Common.{◌≡◌, ℕ, Bool, true, not, List, [], ◌∷◌, ◌++◌, map, Option, Some, None, if◌then◌else◌, refl, ap, ap₂}
+use Rattle.std.proofs.Common.{◌≡◌, ℕ, Bool, true, not, List, [], ◌∷◌, ◌++◌, map, Option, Some, None, if◌then◌else◌, refl, ap, ap₂, subst, sym}
 use Rattle.mpl_ast.specs.declared.class.ResultType.{ResultType}
 use Rattle.mpl_ast.specs.declared.class.ResultType.TheVariants.{Void, Typed}
 use Rattle.mpl_ast.specs.declared.expression.Target.{Target}
@@ -11,8 +11,9 @@ use Rattle.mpl_mean.specs.TypeRules.ExpressionRules.{operands_agree, binary_agre
 use Rattle.mpl_mean.specs.Meaning.Layout.{Member}
 use Rattle.mpl_mean.specs.TypeRules.Nodes.{Node, Located, place, expr_nodes, nodes_of_each, target_nodes, call_nodes}
 use Rattle.mpl_mean.specs.TypeRules.Nodes as node
-use Rattle.mpl_mean.specs.TypeRules.Expr.{Expr, Exprs}
-use Rattle.mpl_mean.specs.TypeRules.Expr as expr
+use Rattle.mpl_mean.specs.Plain.Expr.{Expr, Exprs}
+use Rattle.mpl_mean.specs.Plain.Expr as expr
+use Rattle.mpl_mean.specs.TypeRules.Operations.{Operation, Arithmetic, binary_operation}
 use Rattle.mpl_mean.specs.TypeRules.Rules.{Failure, Rule, rule, rules, first_rules, failures_at, failures_among}
 use Rattle.mpl_mean.specs.TypeRules.Scopes.{Environment, InMain, is_persistent}
 use Rattle.mpl_mean.specs.TypeRules.Types.{ValueType, OfInt}
@@ -53,7 +54,7 @@ with_second at q r a b e =
 
 -- ---- expressions
 
-binary_holds : (l r : Option ValueType) → IsFirstType l → IsFirstType r → binary_agrees expr.Arithmetic l r ≡ true
+binary_holds : (l r : Option ValueType) → IsFirstType l → IsFirstType r → binary_agrees Arithmetic l r ≡ true
 binary_holds None r a b = refl
 binary_holds (Some l) None a b = refl
 binary_holds (Some OfInt) (Some OfInt) a b = refl
@@ -66,19 +67,20 @@ variable_same at environment name = refl
 whole_same : (at : ℕ) (environment : Environment) (t : Target) → Same (place at environment (node.WholePlace t))
 whole_same at environment t = refl
 
-binary_same : (at : ℕ) (environment : Environment) → FirstEnvironment environment → (l r : Expr) → IsFirst l → IsFirst r → Same (place at environment (node.BinaryOperation expr.Arithmetic l r))
-binary_same at environment first l r a b =
-    with_one at (rule 13 operands_agree) _ (binary_holds (type_of environment l) (type_of environment r) (type_first environment first l a) (type_first environment first r b))
+binary_same : (at : ℕ) (operation : Operation) → operation ≡ Arithmetic → (environment : Environment) → FirstEnvironment environment → (l r : Expr) → IsFirst l → IsFirst r
+    → Same (place at environment (node.BinaryOperation operation l r))
+binary_same at operation e environment first l r a b =
+    with_one at (rule 13 operands_agree) _ (subst (λ o. binary_agrees o (type_of environment l) (type_of environment r) ≡ true) (sym e) (binary_holds (type_of environment l) (type_of environment r) (type_first environment first l a) (type_first environment first r b)))
 
 target_same : (environment : Environment) (t : Target) → is_variable t ≡ true → AllSame (target_nodes environment t)
 target_same environment (target.Variable at v) h = (refl, tt)
 target_same environment (target.Field at v f) h = absurd cc
 
 pub expr_same : (environment : Environment) → FirstEnvironment environment → (p : Expr) → IsFirst p → AllSame (expr_nodes environment p)
-expr_same environment first (expr.Number at) h = tt
+expr_same environment first (expr.Number at value) h = tt
 expr_same environment first (expr.Whole at t) h = (refl, target_same environment t h)
-expr_same environment first (expr.Binary at expr.Arithmetic l r) h =
-    (binary_same at environment first l r h.0 h.1, same_append (expr_nodes environment l) (expr_nodes environment r) (expr_same environment first l h.0) (expr_same environment first r h.1))
+expr_same environment first (expr.Binary at line operator l r) h =
+    (binary_same at.span.from (binary_operation operator) h.0 environment first l r h.1 h.2, same_append (expr_nodes environment l) (expr_nodes environment r) (expr_same environment first l h.1) (expr_same environment first r h.2))
 expr_same environment first other h = absurd h
 
 -- ---- calls
@@ -101,9 +103,9 @@ called_first environment first (target.Field at v f) name h = absurd cc
 
 pub call_same : (environment : Environment) → FirstEnvironment environment → environment.body ≡ InMain → (p : Expr) → IsFirstCall p → AllSame (expr_nodes environment p)
 call_same environment first main (expr.CallOnTarget at t member arguments) h = (
-  with_one at (rule 20 void_call_is_alone) _ (has_value_first (member_called environment (Some t) member.text) (called_first environment first t member.text h.0)),
+  with_one at.span.from (rule 20 void_call_is_alone) _ (has_value_first (member_called environment (Some t) member.text) (called_first environment first t member.text h.0)),
   (
-    with_second at (rule 19 member_call_agrees) (rule 21 call_is_in_place) _ _ (ap (λ body. call_may_stand body (is_persistent environment.class) (target_shape environment t)) main),
+    with_second at.span.from (rule 19 member_call_agrees) (rule 21 call_is_in_place) _ _ (ap (λ body. call_may_stand body (is_persistent environment.class) (target_shape environment t)) main),
     (refl, same_append (target_nodes environment t) (nodes_of_each environment arguments) (target_same environment t h.0) (each_same environment first arguments h.1)),
   ),
 )

@@ -16,7 +16,7 @@ use Rattle.mpl_ast.specs.declared.program.Program.{Program}
 use Rattle.mpl_ast.specs.declared.statement.Statement.{Statement}
 use Rattle.mpl_ast.specs.declared.statement.TypeName.{TypeName}
 use Rattle.mpl_ast.specs.declared.statement.TypeName.TheVariants as type
-use Rattle.mpl_mean.specs.TypeRules.Stmt.{stmt_of, in_turn}
+use Rattle.mpl_mean.specs.Plain.Stmt.{stmt_of, in_turn}
 use Rattle.mpl_mean.specs.TypeRules.ClassRules.{member_gives_value, member_may_have}
 use Rattle.mpl_mean.specs.FirstForms.FirstForm.{are_first, are_ints, gives_result, is_class, is_first_form, is_first_item, is_first_statement, is_int, is_int_result, is_one_result, is_without_formals}
 use Rattle.mpl_mean.specs.FirstForms.FirstForm as first

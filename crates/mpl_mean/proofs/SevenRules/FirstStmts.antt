@@ -12,12 +12,12 @@ use Rattle.mpl_ast.specs.declared.statement.Dimension.{Dimension}
 use Rattle.mpl_ast.specs.declared.statement.Statement.{Statement, fold_out-Statement, map-Statement, out-Statement}
 use Rattle.mpl_ast.specs.declared.statement.Statement.TheOpen.{Statement-F}
 use Rattle.mpl_ast.specs.declared.statement.TypeName.{TypeName}
-use Rattle.mpl_mean.specs.TypeRules.Stmt.{Stmt, Stmts, stmt_of, new_local, in_turn}
-use Rattle.mpl_mean.specs.TypeRules.Stmt as stmt
+use Rattle.mpl_mean.specs.Plain.Stmt.{Stmt, Stmts, stmt_of, new_local, in_turn}
+use Rattle.mpl_mean.specs.Plain.Stmt as stmt
 use Rattle.mpl_mean.specs.FirstForms.FirstForm.{is_variable, is_int, is_named, is_call, is_first_call, is_first_declarator, is_first_expression, is_first_flow, is_first_local, is_first_statement, gives_result}
 use Rattle.mpl_mean.specs.FirstForms.FirstForm as first
-use Rattle.mpl_mean.specs.TypeRules.Expr.{Expr, Exprs, listed, expr_of, expr_of_call, expr_of_flow}
-use Rattle.mpl_mean.specs.TypeRules.Expr as expr
+use Rattle.mpl_mean.specs.Plain.Expr.{Expr, Exprs, listed, expr_of, expr_of_call, expr_of_flow}
+use Rattle.mpl_mean.specs.Plain.Expr as expr
 use Rattle.mpl_mean.proofs.SevenRules.FirstExpressions.{IsFirst, expression_is_first}
 use Rattle.mpl_mean.proofs.Truth.{both_true}
 

@@ -1,5 +1,5 @@
 -- What names stand for in a program of the first form, and the types of its expressions: `int`, where they have one.
-use Rattle.std.proofs.Common.{◌≡◌, ℕ, ◌+◌, Bool, true, false, ◌&&◌, List, [], ◌∷◌, ◌++◌, Option, Some, None, if◌then◌else◌, refl}
+use Rattle.std.proofs.Common.{◌≡◌, ℕ, ◌+◌, Bool, true, false, ◌&&◌, List, [], ◌∷◌, ◌++◌, Option, Some, None, if◌then◌else◌, refl, sym, subst}
 use Rattle.std.specs.Prelude.{flat_map}
 use Rattle.std.specs.List.{list_all}
 use Rattle.std.specs.Option.{option_and_then}
@@ -17,8 +17,9 @@ use Rattle.mpl_ast.specs.declared.statement.TypeName.{TypeName}
 use Rattle.mpl_ast.specs.declared.statement.TypeName.TheVariants as type
 use Rattle.mpl_mean.specs.FirstForms.FirstForm.{are_first, is_class, is_main, is_first_item, is_int_result, is_one_result, are_ints}
 use Rattle.mpl_mean.specs.Meaning.Layout.{Member, member_named, members_from, state_of}
-use Rattle.mpl_mean.specs.TypeRules.Expr.{Expr}
-use Rattle.mpl_mean.specs.TypeRules.Expr as expr
+use Rattle.mpl_mean.specs.Plain.Expr.{Expr}
+use Rattle.mpl_mean.specs.Plain.Expr as expr
+use Rattle.mpl_mean.specs.TypeRules.Operations.{Arithmetic}
 use Rattle.mpl_mean.specs.TypeRules.Scopes.{Environment, state_members}
 use Rattle.mpl_mean.specs.TypeRules.Types.{AClass, Nothing, Meant, meant, meant_by, Role, AsLocal, AsFormal, AsResult, InState, InStruct, Declared, first_named, Shape, OneValue, AnArray, ARegular, OfInt, shape_of, shape_of_meant, result_type, ValueType}
 use Rattle.mpl_mean.specs.TypeRules.Typing.{variable_shape, type_of_whole, type_of_binary, type_of, items_called, member_of, type_of_call}
@@ -135,7 +136,7 @@ whole_first (Some (AnArray t)) h = tt
 whole_first (Some (ARegular items)) h = tt
 whole_first other h = absurd h
 
-pub binary_first : (l r : Option ValueType) → IsFirstType l → IsFirstType r → IsFirstType (type_of_binary expr.Arithmetic l r)
+pub binary_first : (l r : Option ValueType) → IsFirstType l → IsFirstType r → IsFirstType (type_of_binary Arithmetic l r)
 binary_first None r a b = tt
 binary_first (Some l) None a b = tt
 binary_first (Some OfInt) (Some OfInt) a b = tt
@@ -143,11 +144,12 @@ binary_first (Some OfInt) r a b = absurd b
 binary_first l r a b = absurd a
 
 pub type_first : (environment : Environment) → FirstEnvironment environment → (p : Expr) → IsFirst p → IsFirstType (type_of environment p)
-type_first environment first (expr.Number at) h = tt
+type_first environment first (expr.Number at value) h = tt
 type_first environment first (expr.Whole at (target.Variable t v)) h = whole_first (variable_shape environment v.text) (variable_first environment first v.text)
 type_first environment first (expr.Whole at (target.Field t v f)) h = absurd cc
-type_first environment first (expr.Binary at expr.Arithmetic l r) h =
-    binary_first (type_of environment l) (type_of environment r) (type_first environment first l h.0) (type_first environment first r h.1)
+type_first environment first (expr.Binary at line operator l r) h =
+    subst (λ o. IsFirstType (type_of_binary o (type_of environment l) (type_of environment r))) (sym h.0)
+    (binary_first (type_of environment l) (type_of environment r) (type_first environment first l h.1) (type_first environment first r h.2))
 type_first environment first other h = absurd h
 
 -- ---- members

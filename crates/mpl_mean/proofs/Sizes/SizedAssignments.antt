@@ -13,6 +13,7 @@ use Rattle.mpl_ast.specs.declared.expression.Target.{Target}
 use Rattle.mpl_ast.specs.declared.expression.Term.{Term}
 use Rattle.mpl_ast.specs.declared.expression.Unary.{Unary}
 use Rattle.mpl_ast.specs.declared.flow.Assignment.{Assignment}
+use Rattle.mpl_ast.specs.declared.place.At.{At}
 use Rattle.mpl_ast.specs.declared.program.Declaration.{Declaration}
 use Rattle.mpl_value.specs.declared.body.Arg.{Arg}
 use Rattle.mpl_value.specs.declared.body.Arg.TheVariants.{Know}
@@ -21,8 +22,8 @@ use Rattle.mpl_mean.specs.TypeRules.ExpressionRules.{can_be_indexed, is_one_valu
 use Rattle.mpl_mean.specs.Meaning.Layout.{Class, class_of_type, dimension_of, words_of}
 use Rattle.mpl_mean.specs.TypeRules.Nodes.{expr_nodes, place, target_nodes}
 use Rattle.mpl_mean.specs.TypeRules.Nodes as node
-use Rattle.mpl_mean.specs.TypeRules.Expr.{Expr, expr_of, expr_of_flow, expr_of_forms, expr_of_place}
-use Rattle.mpl_mean.specs.TypeRules.Expr as expr
+use Rattle.mpl_mean.specs.Plain.Expr.{Expr, expr_of, expr_of_flow, expr_of_forms, expr_of_place}
+use Rattle.mpl_mean.specs.Plain.Expr as expr
 use Rattle.mpl_mean.specs.Meaning.PlaceMeaning.{Location, index_of, put}
 use Rattle.mpl_mean.specs.Meaning.StatementMeaning.{Effect, assign_place, assign_location, assigns, at_location, create_at, new_object}
 use Rattle.mpl_mean.specs.Meaning.Store.{Variable, ◌>>=◌, waits}
@@ -91,7 +92,7 @@ module _ (G : Frame) (S : Setting) (s : Sound G S) (blocks : List (List Declared
   abbrev Suits : Expr → Arg → Type 0
   Suits p value = (t : Option ValueType) × (agree (type_of (environment G S blocks) p) t ≡ true) × ArgHas G.MayWait G.declarations t value
 
-  into_whole : (at : ℕ) (t : Target) (value : Arg) (location : Option Location)
+  into_whole : (at : At) (t : Target) (value : Arg) (location : Option Location)
       → Keeps G vs ((Ready (expr.Whole at t) × Suits (expr.Whole at t) value) × SpotRight G S blocks vs t location) (Unit {0}) (λ _. Unit {0}) (assign_location location value)
   into_whole at t value None = stop_keeps G vs _ (λ q. absurd (q.1).fits)
   into_whole at t value (Some location) =
@@ -109,8 +110,8 @@ module _ (G : Frame) (S : Setting) (s : Sound G S) (blocks : List (List Declared
   element line None i words = waits
   element line (Some location) i words = index_of line location.words (word_of i) >>= (λ n. put location.variable (location.offset + n) words)
 
-  element_there : (at : ℕ) (t : Target) (e : Expression) → Ready (expr.Element at t (expr_of e)) → HasSize G.declarations (type_of (environment G S blocks) (expr.Element at t (expr_of e))) 1
-  element_there at t e r =
+  element_there : (at : At) (line : ℕ) (t : Target) (e : Expression) → Ready (expr.Element at line t (expr_of e)) → HasSize G.declarations (type_of (environment G S blocks) (expr.Element at line t (expr_of e))) 1
+  element_there at line t e r =
       let h = environment G S blocks in
       let d = target_there G S s.well blocks vs t r.0 (every_left Right (target_nodes h t) (expr_nodes h (expr_of e)) (r.1).1) in
       let i = which (type_of h (expr_of e)) (type_there G S s.well blocks vs (expression_means e) (r.0, every_right Right (target_nodes h t) (expr_nodes h (expr_of e)) (r.1).1)) in
@@ -132,13 +133,13 @@ module _ (G : Frame) (S : Setting) (s : Sound G S) (blocks : List (List Declared
 
   place_keeps : (l : Place-F Conjunction Equality Expression Place Primary Relation Sum Term Unary) (value : Arg)
       → Keeps G vs (Ready (expr_of_layer l) × Suits (expr_of_layer l) value) (Unit {0}) (λ _. Unit {0}) (assign_place (inside G S) l value)
-  place_keeps (Place-F.Whole at t) value = location_keeps G S s.well blocks vs t (λ location. assign_location location value) (λ q. q.0.0) (λ q. (q.0.1).1) (into_whole at.span.from t value)
+  place_keeps (Place-F.Whole at t) value = location_keeps G S s.well blocks vs t (λ location. assign_location location value) (λ q. q.0.0) (λ q. (q.0.1).1) (into_whole at t value)
   place_keeps (Place-F.Element at line t e) value =
       let h = environment G S blocks in
       so_keeps G vs (λ p. p) (λ a p e. tt)
       (then_keeps G vs
       (force_keeps G vs 1 value
-      (λ q. agree_arg G.MayWait G.declarations (type_of h (expr.Element at.span.from t (expr_of e))) (q.1).0 1 value (element_there at.span.from t e q.0) (q.1).1 (q.1).2)) (λ words.
+      (λ q. agree_arg G.MayWait G.declarations (type_of h (expr.Element at line t (expr_of e))) (q.1).0 1 value (element_there at line t e q.0) (q.1).1 (q.1).2)) (λ words.
       then_keeps G vs
       (from_premise G vs (λ q. (q.0.0.0, every_right Right (target_nodes h t) (expr_nodes h (expr_of e)) (q.0.0.1).1)) (value_keeps G S s blocks vs (expression_means e))) (λ i.
       location_keeps G S s.well blocks vs t (λ location. element line location i words) (λ q. q.0.0.0.0) (λ q. every_left Right (target_nodes h t) (expr_nodes h (expr_of e)) (q.0.0.0.1).1)

@@ -3,11 +3,11 @@ use Rattle.std.proofs.Common.{◌≡◌, List, [], ◌∷◌, Option, Some, None
 use Rattle.std.specs.Option.{option_map}
 use Rattle.mpl_ast.specs.declared.flow.Assignment.{Assignment}
 use Rattle.mpl_ast.specs.declared.statement.TypeName.{TypeName}
-use Rattle.mpl_mean.specs.TypeRules.Stmt.{Stmt, Stmts, NewLocal, assigns, if_any, new_local, starts}
-use Rattle.mpl_mean.specs.TypeRules.Stmt as stmt
+use Rattle.mpl_mean.specs.Plain.Stmt.{Stmt, Stmts, NewLocal, assigns, if_any, new_local, starts}
+use Rattle.mpl_mean.specs.Plain.Stmt as stmt
 use Rattle.mpl_mean.specs.TypeRules.Nodes.{Located, expr_nodes}
 use Rattle.mpl_mean.specs.TypeRules.Nodes as node
-use Rattle.mpl_mean.specs.TypeRules.Expr.{Expr, begins}
+use Rattle.mpl_mean.specs.Plain.Expr.{Expr, begins}
 use Rattle.mpl_mean.specs.TypeRules.Scopes.{Environment, behind, with_last}
 use Rattle.mpl_mean.specs.TypeRules.StatementNodes.{◌⨾◌, one, expr_walk, scoped as scoped_walk, stmt_walk, locals_walk, exprs_if_any, declared_local}
 use Rattle.mpl_mean.specs.TypeRules.Types.{Declared}
@@ -38,6 +38,7 @@ after_is G S (stmt.Locals type news) blocks = locals_after G S type news blocks
 after_is G S (stmt.Assigns at p q) blocks = refl
 after_is G S (stmt.Calls p) blocks = refl
 after_is G S (stmt.Creates at t) blocks = refl
+after_is G S (stmt.When test a) blocks = refl
 after_is G S (stmt.Branches test a b) blocks = refl
 after_is G S (stmt.Repeats test a) blocks = refl
 after_is G S (stmt.Loops start test step a) blocks = refl

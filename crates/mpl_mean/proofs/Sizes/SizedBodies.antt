@@ -17,8 +17,8 @@ use Rattle.mpl_value.specs.declared.body.BodyResult.TheVariants as result
 use Rattle.mpl_value.specs.declared.body.CallMade.{CallMade}
 use Rattle.mpl_value.specs.declared.known.Known.{Known}
 use Rattle.mpl_value.specs.declared.known.Known.TheVariants as known
-use Rattle.mpl_mean.specs.TypeRules.Stmt.{Stmts, stmt_of, stmts_of}
-use Rattle.mpl_mean.specs.TypeRules.Stmt as stmt
+use Rattle.mpl_mean.specs.Plain.Stmt.{Stmts, stmt_of, stmts_of}
+use Rattle.mpl_mean.specs.Plain.Stmt as stmt
 use Rattle.mpl_value.specs.CallAnswers.{arg_of_result}
 use Rattle.mpl_mean.specs.Meaning.BodyMeaning.{context_with, formals_holding, plain_body, result_at_end, run, with_variables}
 use Rattle.mpl_value.specs.Results.{result_at}

@@ -19,8 +19,8 @@ use Rattle.mpl_mean.specs.Meaning.ExpressionMeaning.{Evaluates}
 use Rattle.mpl_mean.specs.TypeRules.ExpressionRules.{is_one_value}
 use Rattle.mpl_mean.specs.Meaning.Layout.{Member, part_named, words_of}
 use Rattle.mpl_mean.specs.TypeRules.Nodes.{nodes_of_each, expr_nodes}
-use Rattle.mpl_mean.specs.TypeRules.Expr.{Expr, Exprs, expr_of}
-use Rattle.mpl_mean.specs.TypeRules.Expr as expr
+use Rattle.mpl_mean.specs.Plain.Expr.{Expr, Exprs, expr_of}
+use Rattle.mpl_mean.specs.Plain.Expr as expr
 use Rattle.mpl_mean.specs.TypeRules.Scopes.{Body, InFunction, InGuard, InMain, InMember, NoBody, Surrounding, is_in_member, is_persistent, variable_of}
 use Rattle.mpl_mean.specs.Laws.Sizes.{ArgumentsFit, words_of_result}
 use Rattle.mpl_mean.specs.Meaning.Store.{Step, Variable, ◌>>=◌, pure, variable_named}
@@ -32,7 +32,7 @@ use Rattle.mpl_mean.proofs.Sizes.SizedAnswers.{IsMember, all_keep, answer_keeps,
 use Rattle.mpl_mean.proofs.Sizes.SizedArguments.{ArgHas, ValueHas, unknown_waits}
 use Rattle.mpl_mean.proofs.Sizes.SizedExpressionForms.{expression_means}
 use Rattle.mpl_mean.proofs.Sizes.SizedExpressions.{value_keeps}
-use Rattle.mpl_mean.proofs.Sizes.SizedForms.{Means, number, truth, own, input, whole, element, plain, parenthesized, unary, arithmetic, compares, equates, or, and}
+use Rattle.mpl_mean.proofs.Sizes.SizedForms.{Means, number, truth, own, input, whole, element, plain, parenthesized, unary, arithmetic, compares, or, and}
 use Rattle.mpl_mean.proofs.Sizes.SizedPlaces.{which}
 use Rattle.mpl_mean.proofs.Sizes.SizedRules.{AllRight, WellResult}
 use Rattle.mpl_mean.proofs.Sizes.SizedSettings.{FoundAs, Matches, MayCall, PlaceFits, RegularFits, Setting, Sound, VariableOf, environment, inside, look_keeps}
@@ -119,7 +119,7 @@ module _ (G : Frame) (S : Setting) (s : Sound G S) (blocks : List (List Declared
   named_fits name w (number at z) e r f = absurd cc
   named_fits name w (truth at b) e r f = absurd cc
   named_fits name w (own at) e r f = absurd cc
-  named_fits name w (input at line) e r f = absurd cc
+  named_fits name w (input at) e r f = absurd cc
   named_fits name w (whole at (target.Variable t n)) e r f =
       let found : variable_named n.text vs ≡ Some (bare w) = ap (λ k. variable_named k vs) (some_name e) ∙ f.0 in
       let place = subst (λ u. PlaceFits G.declarations G.state_words (variable_of (environment G S blocks) n.text) u (part_named n.text S.context.state)) found (r.0 n.text) in
@@ -130,11 +130,10 @@ module _ (G : Frame) (S : Setting) (s : Sound G S) (blocks : List (List Declared
   named_fits name w (plain at g m) e r f = absurd cc
   named_fits name w (parenthesized at m) e r f = absurd cc
   named_fits name w (unary at line o m) e r f = absurd cc
-  named_fits name w (arithmetic at line o m n) e r f = absurd cc
-  named_fits name w (compares at o m n) e r f = absurd cc
-  named_fits name w (equates at o m n) e r f = absurd cc
-  named_fits name w (or at m n) e r f = absurd cc
-  named_fits name w (and at m n) e r f = absurd cc
+  named_fits name w (arithmetic at line operator o m n) e r f = absurd cc
+  named_fits name w (compares at line operator o m n) e r f = absurd cc
+  named_fits name w (or at line m n) e r f = absurd cc
+  named_fits name w (and at line m n) e r f = absurd cc
 
   abbrev Keeps-Passed : Expr → Step Arg → Type 0
   Keeps-Passed p f = Keeps G vs (Ready p) Arg (ArgHas G.MayWait G.declarations (type_of (environment G S blocks) p)) f

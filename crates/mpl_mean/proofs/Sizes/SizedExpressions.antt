@@ -5,24 +5,27 @@ use Rattle.std.specs.Prelude.{is_some}
 use Rattle.mpl_ast.specs.declared.expression.Target.{Target}
 use Rattle.mpl_ast.specs.declared.expression.UnaryOperator.{UnaryOperator}
 use Rattle.mpl_ast.specs.declared.expression.UnaryOperator.TheVariants as operator
+use Rattle.mpl_ast.specs.declared.place.At.{At}
 use Rattle.mpl_ast.specs.declared.place.Name.{Name}
+use Rattle.mpl_mean.specs.Levels.{BinaryOperator, Or, And}
 use Rattle.mpl_mean.specs.TypeRules.CallRules.{function_takes}
 use Rattle.mpl_mean.specs.Meaning.CallMeaning.{MayName}
 use Rattle.mpl_mean.specs.Meaning.ExpressionMeaning.{Evaluates, called, unary_operation}
-use Rattle.mpl_mean.specs.TypeRules.ExpressionRules.{can_be_indexed, is_one_value}
+use Rattle.mpl_mean.specs.TypeRules.ExpressionRules.{binary_agrees, can_be_indexed, is_one_value}
 use Rattle.mpl_mean.specs.Meaning.Layout.{Function, dimension_of, function_named, words_of}
 use Rattle.mpl_mean.specs.TypeRules.Nodes.{nodes_of_each, expr_nodes, target_nodes}
-use Rattle.mpl_mean.specs.TypeRules.Expr.{Expr, Exprs, expr_of}
-use Rattle.mpl_mean.specs.TypeRules.Expr as expr
+use Rattle.mpl_mean.specs.Plain.Expr.{Expr, Exprs, expr_of}
+use Rattle.mpl_mean.specs.Plain.Expr as expr
 use Rattle.mpl_mean.specs.Meaning.PlaceMeaning.{Location, read, words_of_location}
+use Rattle.mpl_mean.specs.TypeRules.Operations.{Logic, binary_operation, unary_operation as unary_kind}
 use Rattle.mpl_mean.specs.TypeRules.Scopes.{is_main, plain_function}
 use Rattle.mpl_mean.specs.Meaning.Store.{Step, Variable}
 use Rattle.mpl_mean.specs.TypeRules.Types.{AsResult, Declared, meant, shape_of, value_type}
-use Rattle.mpl_mean.specs.TypeRules.Typing.{target_shape, type_of, type_of_element, type_of_plain_call, type_of_whole, types_of}
+use Rattle.mpl_mean.specs.TypeRules.Typing.{target_shape, type_of, type_of_binary, type_of_element, type_of_plain_call, type_of_whole, types_of}
 use Rattle.mpl_mean.specs.Meaning.Values.{Value, is_true}
 use Rattle.mpl_mean.proofs.Sizes.SizedAnswers.{ListsFit, all_keep, zip_from}
 use Rattle.mpl_mean.proofs.Sizes.SizedArguments.{ValueHas, function_of, words_fit}
-use Rattle.mpl_mean.proofs.Sizes.SizedForms.{Means, MeansEach, number, truth, own, input, whole, element, plain, parenthesized, unary, arithmetic, compares, equates, or, and}
+use Rattle.mpl_mean.proofs.Sizes.SizedForms.{Means, MeansEach, number, truth, own, input, whole, element, plain, parenthesized, unary, arithmetic, compares, or, and}
 use Rattle.mpl_mean.proofs.Sizes.SizedForms as each
 use Rattle.mpl_mean.proofs.Sizes.SizedPlaces.{SpotRight, index_keeps, location_keeps, which, words_keeps}
 use Rattle.mpl_mean.proofs.Sizes.SizedRules.{AllRight, Right, WellDeclared, every_left, every_right}
@@ -81,21 +84,22 @@ module _ (G : Frame) (S : Setting) (s : Sound G S) (blocks : List (List Declared
   unary_value line operator.Not v = give_keeps G vs _ (λ p. refl)
 
   -- the nodes of the two operands
-  left_ready : (at : ℕ) (o : expr.Operation) (p q : Expr) → Ready (expr.Binary at o p q) → Ready p
-  left_ready at o p q r = (r.0, every_left Right (expr_nodes (environment G S blocks) p) (expr_nodes (environment G S blocks) q) (r.1).1)
+  left_ready : (at : At) (line : ℕ) (o : BinaryOperator) (p q : Expr) → Ready (expr.Binary at line o p q) → Ready p
+  left_ready at line o p q r = (r.0, every_left Right (expr_nodes (environment G S blocks) p) (expr_nodes (environment G S blocks) q) (r.1).1)
 
-  right_ready : (at : ℕ) (o : expr.Operation) (p q : Expr) → Ready (expr.Binary at o p q) → Ready q
-  right_ready at o p q r = (r.0, every_right Right (expr_nodes (environment G S blocks) p) (expr_nodes (environment G S blocks) q) (r.1).1)
+  right_ready : (at : At) (line : ℕ) (o : BinaryOperator) (p q : Expr) → Ready (expr.Binary at line o p q) → Ready q
+  right_ready at line o p q r = (r.0, every_right Right (expr_nodes (environment G S blocks) p) (expr_nodes (environment G S blocks) q) (r.1).1)
 
-  both : (at : ℕ) (o : expr.Operation) (p q : Expr) (m n k : ℕ) → Ready (expr.Binary at o p q) → HasSize G.declarations (type_of (environment G S blocks) p) m
-      → HasSize G.declarations (type_of (environment G S blocks) q) n → k ≡ 1 → HasSize G.declarations (type_of (environment G S blocks) (expr.Binary at o p q)) k
-  both at o p q m n k r h i e =
-      subst (λ k. HasSize G.declarations (type_of (environment G S blocks) (expr.Binary at o p q)) k) (sym e)
-      (binary_size G.declarations o (type_of (environment G S blocks) p) (type_of (environment G S blocks) q) m n h i (r.1).0.operands)
+  both : (at : At) (line : ℕ) (o : BinaryOperator) (p q : Expr) (m n k : ℕ) → Ready (expr.Binary at line o p q) → HasSize G.declarations (type_of (environment G S blocks) p) m
+      → HasSize G.declarations (type_of (environment G S blocks) q) n → k ≡ 1 → HasSize G.declarations (type_of (environment G S blocks) (expr.Binary at line o p q)) k
+  both at line o p q m n k r h i e =
+      subst (λ k. HasSize G.declarations (type_of (environment G S blocks) (expr.Binary at line o p q)) k) (sym e)
+      (binary_size G.declarations (binary_operation o) (type_of (environment G S blocks) p) (type_of (environment G S blocks) q) m n h i (r.1).0.operands)
 
-  right : (at : ℕ) (p q : Expr) (m n : ℕ) → Ready (expr.Binary at expr.Logic p q) → HasSize G.declarations (type_of (environment G S blocks) p) m
-      → HasSize G.declarations (type_of (environment G S blocks) q) n → HasSize G.declarations (type_of (environment G S blocks) (expr.Binary at expr.Logic p q)) n
-  right at p q m n r h i = logic_size G.declarations (type_of (environment G S blocks) p) (type_of (environment G S blocks) q) m n h i (r.1).0.operands
+  right : (p q : Expr) (m n : ℕ) → binary_agrees Logic (type_of (environment G S blocks) p) (type_of (environment G S blocks) q) ≡ true
+      → HasSize G.declarations (type_of (environment G S blocks) p) m → HasSize G.declarations (type_of (environment G S blocks) q) n
+      → HasSize G.declarations (type_of_binary Logic (type_of (environment G S blocks) p) (type_of (environment G S blocks) q)) n
+  right p q m n r h i = logic_size G.declarations (type_of (environment G S blocks) p) (type_of (environment G S blocks) q) m n h i r
 
   each_ready : (p : Expr) (ps : Exprs) → ReadyEach (expr.MoreExprs p ps) → Ready p × ReadyEach ps
   each_ready p ps r = (
@@ -103,7 +107,7 @@ module _ (G : Frame) (S : Setting) (s : Sound G S) (blocks : List (List Declared
     (r.0, every_right Right (expr_nodes (environment G S blocks) p) (nodes_of_each (environment G S blocks) ps) r.1),
   )
 
-  plain_fits : (f : Name) (at : ℕ) (ps : Exprs) (values : List Value) → Ready (expr.PlainCall at f ps) → AllZip (ValueHas G.declarations) (types_of (environment G S blocks) ps) values
+  plain_fits : (f : Name) (at : At) (ps : Exprs) (values : List Value) → Ready (expr.PlainCall at f ps) → AllZip (ValueHas G.declarations) (types_of (environment G S blocks) ps) values
       → (g : Function) × (function_named f.text G.declarations ≡ Some g) × PlainFits G.declarations g × ListsFit G.declarations g.formals (map (λ (value : Value). value.words) values)
   plain_fits f at ps values r h =
       let known = (r.1).0.known in
@@ -118,7 +122,7 @@ module _ (G : Frame) (S : Setting) (s : Sound G S) (blocks : List (List Declared
             (subst (λ o. function_takes G.declarations o (types_of (environment G S blocks) ps) ≡ true) is takes) (fits.routine).0,
       )
 
-  plain_size : (f : Name) (at : ℕ) (ps : Exprs) (v : Value) → Ready (expr.PlainCall at f ps)
+  plain_size : (f : Name) (at : At) (ps : Exprs) (v : Value) → Ready (expr.PlainCall at f ps)
       → ((g : Function) → function_named f.text G.declarations ≡ Some g → length v.words ≡ words_of G.declarations g.result None)
       → ValueHas G.declarations (type_of (environment G S blocks) (expr.PlainCall at f ps)) v
   plain_size f at ps v r h =
@@ -130,18 +134,18 @@ module _ (G : Frame) (S : Setting) (s : Sound G S) (blocks : List (List Declared
       (subst (λ o. ValueHas G.declarations o v) (sym t.1) (h g.0 g.2 ∙ type_words s.well AsResult (g.0).result t.0 t.1))
 
   -- where the right operand isn't evaluated
-  one : (at : ℕ) (p q : Expr) (m : ℕ) → Ready (expr.Binary at expr.Logic p q) → is_some (type_of (environment G S blocks) q) ≡ true → HasSize G.declarations (type_of (environment G S blocks) p) m
-      → HasSize G.declarations (type_of (environment G S blocks) (expr.Binary at expr.Logic p q)) 1
-  one at p q m r i h =
+  one : (at : At) (line : ℕ) (o : BinaryOperator) (p q : Expr) (m : ℕ) → Ready (expr.Binary at line o p q) → is_some (type_of (environment G S blocks) q) ≡ true → HasSize G.declarations (type_of (environment G S blocks) p) m
+      → HasSize G.declarations (type_of (environment G S blocks) (expr.Binary at line o p q)) 1
+  one at line o p q m r i h =
       let t = which (type_of (environment G S blocks) q) i in
-      both at expr.Logic p q m (size G.declarations t.0) 1 r h (subst (λ o. HasSize G.declarations o (size G.declarations t.0)) (sym t.1) refl) refl
+      both at line o p q m (size G.declarations t.0) 1 r h (subst (λ o. HasSize G.declarations o (size G.declarations t.0)) (sym t.1) refl) refl
 
   mutual
     pub value_keeps : {v : Evaluates} {p : Expr} {m : MayName} → Means v p m → Keeps-Value p (v (inside G S))
     value_keeps (number at z) = give_keeps G vs _ (λ p. refl)
     value_keeps (truth at b) = give_keeps G vs _ (λ p. refl)
     value_keeps (own at) = give_keeps G vs _ (λ p. own_size G.declarations S.body S.class (p.1).0.own)
-    value_keeps (input at line) = so_keeps G vs (λ p. p) (λ v p e. e) (inputs_keeps G vs line)
+    value_keeps (input at) = so_keeps G vs (λ p. p) (λ v p e. e) (inputs_keeps G vs at.line)
     value_keeps (whole at t) =
         so_keeps G vs (λ p. p)
         (λ v p e.
@@ -167,30 +171,26 @@ module _ (G : Frame) (S : Setting) (s : Sound G S) (blocks : List (List Declared
         then_keeps G vs (from_premise G vs (λ r. (r.0, (r.1).1)) (value_keeps m)) (λ v.
         so_keeps G vs (λ r. r)
         (λ w r e.
-        subst (λ k. HasSize G.declarations (type_of (environment G S blocks) (expr.Unary at (expr.unary_operation o) p)) k) (sym e)
-        (unary_size G.declarations (expr.unary_operation o) (type_of (environment G S blocks) p) (length v.words) r.1 (r.0.1).0.operands))
+        subst (λ k. HasSize G.declarations (type_of (environment G S blocks) (expr.Unary at line o p)) k) (sym e)
+        (unary_size G.declarations (unary_kind o) (type_of (environment G S blocks) p) (length v.words) r.1 (r.0.1).0.operands))
         (unary_value line o v))
-    value_keeps (arithmetic {p = p} {q = q} at line o m n) =
-        then_keeps G vs (from_premise G vs (left_ready at expr.Arithmetic p q) (value_keeps m)) (λ a.
-        then_keeps G vs (from_premise G vs (λ r. right_ready at expr.Arithmetic p q r.0) (value_keeps n)) (λ b.
-        then_keeps G vs (computes G vs line _) (λ z. give_keeps G vs _ (λ r. both at expr.Arithmetic p q _ _ 1 r.0.0.0 r.0.0.1 r.0.1 refl))))
-    value_keeps (compares {p = p} {q = q} at o m n) =
-        then_keeps G vs (from_premise G vs (left_ready at expr.Comparison p q) (value_keeps m)) (λ a.
-        then_keeps G vs (from_premise G vs (λ r. right_ready at expr.Comparison p q r.0) (value_keeps n)) (λ b.
-        give_keeps G vs _ (λ r. both at expr.Comparison p q _ _ 1 r.0.0 r.0.1 r.1 refl)))
-    value_keeps (equates {p = p} {q = q} at o m n) =
-        then_keeps G vs (from_premise G vs (left_ready at expr.Equality p q) (value_keeps m)) (λ a.
-        then_keeps G vs (from_premise G vs (λ r. right_ready at expr.Equality p q r.0) (value_keeps n)) (λ b.
-        give_keeps G vs _ (λ r. both at expr.Equality p q _ _ 1 r.0.0 r.0.1 r.1 refl)))
-    value_keeps (or {p = p} {q = q} at m n) =
-        then_keeps G vs (from_premise G vs (left_ready at expr.Logic p q) (value_keeps m)) (λ a.
-        if_keeps G vs (is_true a) (give_keeps G vs _ (λ r. one at p q _ r.0 (type_there G S s.well blocks vs n (right_ready at expr.Logic p q r.0)) r.1))
-        (so_keeps G vs (λ r. right_ready at expr.Logic p q r.0) (λ b r e. right at p q _ _ r.0 r.1 e) (value_keeps n)))
-    value_keeps (and {p = p} {q = q} at m n) =
-        then_keeps G vs (from_premise G vs (left_ready at expr.Logic p q) (value_keeps m)) (λ a.
+    value_keeps (arithmetic {p = p} {q = q} at line operator o m n) =
+        then_keeps G vs (from_premise G vs (left_ready at line operator p q) (value_keeps m)) (λ a.
+        then_keeps G vs (from_premise G vs (λ r. right_ready at line operator p q r.0) (value_keeps n)) (λ b.
+        then_keeps G vs (computes G vs line _) (λ z. give_keeps G vs _ (λ r. both at line operator p q _ _ 1 r.0.0.0 r.0.0.1 r.0.1 refl))))
+    value_keeps (compares {p = p} {q = q} at line operator o m n) =
+        then_keeps G vs (from_premise G vs (left_ready at line operator p q) (value_keeps m)) (λ a.
+        then_keeps G vs (from_premise G vs (λ r. right_ready at line operator p q r.0) (value_keeps n)) (λ b.
+        give_keeps G vs _ (λ r. both at line operator p q _ _ 1 r.0.0 r.0.1 r.1 refl)))
+    value_keeps (or {p = p} {q = q} at line m n) =
+        then_keeps G vs (from_premise G vs (left_ready at line Or p q) (value_keeps m)) (λ a.
+        if_keeps G vs (is_true a) (give_keeps G vs _ (λ r. one at line Or p q _ r.0 (type_there G S s.well blocks vs n (right_ready at line Or p q r.0)) r.1))
+        (so_keeps G vs (λ r. right_ready at line Or p q r.0) (λ b r e. right p q _ _ (r.0.1).0.operands r.1 e) (value_keeps n)))
+    value_keeps (and {p = p} {q = q} at line m n) =
+        then_keeps G vs (from_premise G vs (left_ready at line And p q) (value_keeps m)) (λ a.
         if_keeps G vs (is_true a)
-        (so_keeps G vs (λ r. right_ready at expr.Logic p q r.0) (λ b r e. right at p q _ _ r.0 r.1 e) (value_keeps n))
-        (give_keeps G vs _ (λ r. one at p q _ r.0 (type_there G S s.well blocks vs n (right_ready at expr.Logic p q r.0)) r.1)))
+        (so_keeps G vs (λ r. right_ready at line And p q r.0) (λ b r e. right p q _ _ (r.0.1).0.operands r.1 e) (value_keeps n))
+        (give_keeps G vs _ (λ r. one at line And p q _ r.0 (type_there G S s.well blocks vs n (right_ready at line And p q r.0)) r.1)))
 
     pub each_keeps : {fs : List Evaluates} {ps : Exprs} → MeansEach fs ps
         → AllZip (λ t f. Keeps G vs (ReadyEach ps) Value (ValueHas G.declarations t) f) (types_of (environment G S blocks) ps) (map (λ (evaluates : Evaluates). evaluates (inside G S)) fs)

@@ -15,8 +15,8 @@ use Rattle.mpl_mean.specs.Meaning.ExpressionMeaning.{Evaluates}
 use Rattle.mpl_mean.specs.Meaning.Layout.{Class, Member, class_named, class_of_type, classes_of, member_named}
 use Rattle.mpl_mean.specs.TypeRules.NameRules.{has_member}
 use Rattle.mpl_mean.specs.TypeRules.Nodes.{call_nodes, nodes_of_each, expr_nodes, statement_call_nodes, target_nodes}
-use Rattle.mpl_mean.specs.TypeRules.Expr.{Expr, Exprs, expr_of, expr_of_call, expr_of_flow}
-use Rattle.mpl_mean.specs.TypeRules.Expr as expr
+use Rattle.mpl_mean.specs.Plain.Expr.{Expr, Exprs, expr_of, expr_of_call, expr_of_flow}
+use Rattle.mpl_mean.specs.Plain.Expr as expr
 use Rattle.mpl_mean.specs.Meaning.PlaceMeaning.{Location}
 use Rattle.mpl_mean.specs.TypeRules.Scopes.{Environment, is_in_member, is_persistent}
 use Rattle.mpl_mean.specs.Laws.Sizes.{ArgumentsFit, words_of_result}
@@ -30,7 +30,7 @@ use Rattle.mpl_mean.proofs.Sizes.SizedArguments.{ArgHas, args_fit}
 use Rattle.mpl_mean.proofs.Sizes.SizedCallees.{ClassOf, MemberOf, callees_of, class_at, class_there, regular_of}
 use Rattle.mpl_mean.proofs.Sizes.SizedCalls.{CallHas, bound_keeps, if_known, member_keeps, object_may, own_may, pass_keeps, passed_has, persistent_keeps, regular_keeps}
 use Rattle.mpl_mean.proofs.Sizes.SizedExpressionForms.{expression_means}
-use Rattle.mpl_mean.proofs.Sizes.SizedForms.{Means, number, truth, own, input, whole, element, plain, parenthesized, unary, arithmetic, compares, equates, or, and, PassesOn, PassesEach, on_own, on_target, expression}
+use Rattle.mpl_mean.proofs.Sizes.SizedForms.{Means, number, truth, own, input, whole, element, plain, parenthesized, unary, arithmetic, compares, or, and, PassesOn, PassesEach, on_own, on_target, expression}
 use Rattle.mpl_mean.proofs.Sizes.SizedForms as each
 use Rattle.mpl_mean.proofs.Sizes.SizedPlaces.{which, SpotRight, location_keeps, words_keeps}
 use Rattle.mpl_mean.proofs.Sizes.SizedRules.{AllRight, Right, WellResult, every_left, every_right}
@@ -68,17 +68,16 @@ pub no_call : {v : Evaluates} {p : Expr} {m : MayName} (h : Environment) → Mea
 no_call h (number at z) = refl
 no_call h (truth at b) = refl
 no_call h (own at) = refl
-no_call h (input at line) = refl
+no_call h (input at) = refl
 no_call h (whole at t) = refl
 no_call h (element at line t m) = refl
 no_call h (plain at g m) = refl
 no_call h (parenthesized at m) = refl
 no_call h (unary at line o m) = refl
-no_call h (arithmetic at line o m n) = refl
-no_call h (compares at o m n) = refl
-no_call h (equates at o m n) = refl
-no_call h (or at m n) = refl
-no_call h (and at m n) = refl
+no_call h (arithmetic at line operator o m n) = refl
+no_call h (compares at line operator o m n) = refl
+no_call h (or at line m n) = refl
+no_call h (and at line m n) = refl
 
 module _ (G : Frame) (S : Setting) (s : Sound G S) (blocks : List (List Declared)) (vs : List Variable) where
   abbrev EachKeeps : Type 0 → List (Option ValueType) → List (Step Arg) → Type 0
@@ -227,12 +226,12 @@ module _ (G : Frame) (S : Setting) (s : Sound G S) (blocks : List (List Declared
     pub passes_keeps : {f : Passes} {p : Expr} → PassesOn f p → Keeps G vs (Ready p) Arg (ArgHas G.MayWait G.declarations (type_of (environment G S blocks) p)) (f (inside G S))
     passes_keeps (on_own {fs = fs} {ps = ps} at member m) =
         so_keeps G vs (λ r. r) (λ a r h. passed_has G.MayWait s.well (Called None member) a (r.1).0.passed h)
-        (own_keeps at member ps (at_context (inside G S) fs) (λ r. (r.0, (r.1).1))
-        (zip_from G vs (ArgHas G.MayWait G.declarations) (λ r. arguments_ready at None member ps (r.0, (r.1).1)) _ _ (each_passes_keeps m)))
-    passes_keeps (on_target {fs = fs} {ps = ps} at line t member m) =
+        (own_keeps at.span.from member ps (at_context (inside G S) fs) (λ r. (r.0, (r.1).1))
+        (zip_from G vs (ArgHas G.MayWait G.declarations) (λ r. arguments_ready at.span.from None member ps (r.0, (r.1).1)) _ _ (each_passes_keeps m)))
+    passes_keeps (on_target {fs = fs} {ps = ps} at t member m) =
         so_keeps G vs (λ r. r) (λ a r h. passed_has G.MayWait s.well (Called (Some t) member) a (r.1).0.passed h)
-        (target_keeps at line t member ps (at_context (inside G S) fs) (λ r. (r.0, (r.1).1))
-        (zip_from G vs (ArgHas G.MayWait G.declarations) (λ r. arguments_ready at (Some t) member ps (r.0, (r.1).1)) _ _ (each_passes_keeps m)))
+        (target_keeps at.span.from at.line t member ps (at_context (inside G S) fs) (λ r. (r.0, (r.1).1))
+        (zip_from G vs (ArgHas G.MayWait G.declarations) (λ r. arguments_ready at.span.from (Some t) member ps (r.0, (r.1).1)) _ _ (each_passes_keeps m)))
     passes_keeps (expression e) = pass_keeps G S s blocks vs e
 
     pub each_passes_keeps : {fs : List Passes} {ps : Exprs} → PassesEach fs ps → EachKeeps (ReadyEach ps) (types_of (environment G S blocks) ps) (at_context (inside G S) fs)
@@ -246,10 +245,10 @@ module _ (G : Frame) (S : Setting) (s : Sound G S) (blocks : List (List Declared
   alone_keeps : {f : Passes} {p : Expr} → PassesOn f p → Keeps G vs (Matches G S blocks vs × AllRight (statement_call_nodes (environment G S blocks) p)) Arg (λ _. Unit {0}) (f (inside G S))
   alone_keeps (on_own {fs = fs} {ps = ps} at member m) =
       so_keeps G vs (λ r. r) (λ a r h. tt)
-      (own_keeps at member ps (at_context (inside G S) fs) (λ r. r) (zip_from G vs (ArgHas G.MayWait G.declarations) (arguments_ready at None member ps) _ _ (each_passes_keeps m)))
-  alone_keeps (on_target {fs = fs} {ps = ps} at line t member m) =
+      (own_keeps at.span.from member ps (at_context (inside G S) fs) (λ r. r) (zip_from G vs (ArgHas G.MayWait G.declarations) (arguments_ready at.span.from None member ps) _ _ (each_passes_keeps m)))
+  alone_keeps (on_target {fs = fs} {ps = ps} at t member m) =
       so_keeps G vs (λ r. r) (λ a r h. tt)
-      (target_keeps at line t member ps (at_context (inside G S) fs) (λ r. r) (zip_from G vs (ArgHas G.MayWait G.declarations) (arguments_ready at (Some t) member ps) _ _ (each_passes_keeps m)))
+      (target_keeps at.span.from at.line t member ps (at_context (inside G S) fs) (λ r. r) (zip_from G vs (ArgHas G.MayWait G.declarations) (arguments_ready at.span.from (Some t) member ps) _ _ (each_passes_keeps m)))
   alone_keeps (expression e) =
       so_keeps G vs (λ r. (r.0, subst AllRight (no_call (environment G S blocks) (expression_means e)) r.1)) (λ a r h. tt) (pass_keeps G S s blocks vs e)
 

@@ -10,12 +10,12 @@ use Rattle.mpl_ast.specs.declared.statement.Declarator.{Declarator}
 use Rattle.mpl_ast.specs.declared.statement.Declarator.TheVariants.{Plain, Initialized}
 use Rattle.mpl_ast.specs.declared.statement.Dimension.{Dimension}
 use Rattle.mpl_ast.specs.declared.statement.TypeName.{TypeName}
-use Rattle.mpl_mean.specs.TypeRules.Stmt.{NewLocal, new_local}
+use Rattle.mpl_mean.specs.Plain.Stmt.{NewLocal, new_local}
 use Rattle.mpl_mean.specs.TypeRules.ExpressionRules.{is_no_regular, is_one_value}
 use Rattle.mpl_mean.specs.Meaning.Layout.{dimension_of, part_named, words_of}
 use Rattle.mpl_mean.specs.TypeRules.NameRules.{is_meant}
 use Rattle.mpl_mean.specs.TypeRules.Nodes.{Located, expr_nodes}
-use Rattle.mpl_mean.specs.TypeRules.Expr.{expr_of_flow}
+use Rattle.mpl_mean.specs.Plain.Expr.{expr_of_flow}
 use Rattle.mpl_mean.specs.TypeRules.Scopes.{locals_beside, state_members, variable_of, with_last}
 use Rattle.mpl_mean.specs.TypeRules.SizeRules.{is_element, is_size}
 use Rattle.mpl_mean.specs.Meaning.Layout as layout

@@ -12,7 +12,7 @@ use Rattle.mpl_ast.specs.declared.program.Program.{Program}
 use Rattle.mpl_ast.specs.declared.statement.Block.{Block}
 use Rattle.mpl_ast.specs.declared.statement.Dimension.{Dimension}
 use Rattle.mpl_ast.specs.declared.statement.TypeName.{TypeName}
-use Rattle.mpl_mean.specs.TypeRules.Stmt.{stmts_of}
+use Rattle.mpl_mean.specs.Plain.Stmt.{stmts_of}
 use Rattle.mpl_mean.specs.TypeRules.CallRules.{plain_call_agrees, member_call_agrees, void_call_is_alone, call_is_in_place, self_is_in_place}
 use Rattle.mpl_mean.specs.TypeRules.ClassRules.{state_is_persistent}
 use Rattle.mpl_mean.specs.TypeRules.ExpressionRules.{operands_agree, index_agrees, place_may_stand, field_is_of_struct, right_side_agrees}

@@ -6,11 +6,11 @@ use Rattle.mpl_ast.specs.declared.flow.Call.TheOpen.{Call-F, Flow-F}
 use Rattle.mpl_ast.specs.declared.statement.Block.{Block, Block-F, fold-Block, fold-roll-Block, map-Block, roll-Block}
 use Rattle.mpl_ast.specs.declared.statement.Statement.{Statement, fold-roll-Statement, map-Statement, roll-Statement, ind-Statement}
 use Rattle.mpl_ast.specs.declared.statement.Statement.TheOpen.{Statement-F}
-use Rattle.mpl_mean.specs.TypeRules.Stmt.{Stmt, Stmts, stmt_of, in_turn}
-use Rattle.mpl_mean.specs.TypeRules.Stmt as stmt
+use Rattle.mpl_mean.specs.Plain.Stmt.{Stmt, Stmts, stmt_of, in_turn}
+use Rattle.mpl_mean.specs.Plain.Stmt as stmt
 use Rattle.mpl_mean.specs.Meaning.CallMeaning.{Passes, passes, call_value, call_step, flow_step}
-use Rattle.mpl_mean.specs.TypeRules.Expr.{Expr, Exprs, listed, expr_of_call, expr_of_flow}
-use Rattle.mpl_mean.specs.TypeRules.Expr as expr
+use Rattle.mpl_mean.specs.Plain.Expr.{Expr, Exprs, listed, expr_of_call, expr_of_flow}
+use Rattle.mpl_mean.specs.Plain.Expr as expr
 use Rattle.mpl_mean.specs.Meaning.StatementMeaning.{Does, does, statement_step, block_step}
 use Rattle.mpl_mean.proofs.Sizes.SizedForms.{PassesOn, PassesEach, on_own, on_target, expression, Acts, ActsEach, within, declare, assign, call, create, branch, branches, repeats, loops, print, rtf, return, empty}
 use Rattle.mpl_mean.proofs.Sizes.SizedForms as each
@@ -45,8 +45,8 @@ rolled-Flow : (layer : Flow-F Call Flow) → PassesOn (flow_step (map-Flow Call 
 rolled-Flow layer = both (sym (fold-roll-Flow Passes Passes call_step flow_step layer)) (sym (fold-roll-Flow Expr Expr expr.call_step expr.flow_step layer))
 
 call_layer : (y : Call-F With-Call With-Flow) → Good-Call (roll-Call (map-Call With-Call With-Flow Call Flow (λ t. t.0) (λ t. t.0) y))
-call_layer (Call-F.OnOwn at name ts) = rolled-Call (Call-F.OnOwn at name (map (λ t. t.0) ts)) (on_own at.span.from name (each_passes ts))
-call_layer (Call-F.OnTarget at t name ts) = rolled-Call (Call-F.OnTarget at t name (map (λ t. t.0) ts)) (on_target at.span.from at.line t name (each_passes ts))
+call_layer (Call-F.OnOwn at name ts) = rolled-Call (Call-F.OnOwn at name (map (λ t. t.0) ts)) (on_own at name (each_passes ts))
+call_layer (Call-F.OnTarget at t name ts) = rolled-Call (Call-F.OnTarget at t name (map (λ t. t.0) ts)) (on_target at t name (each_passes ts))
 
 flow_layer : (y : Flow-F With-Call With-Flow) → Good-Flow (roll-Flow (map-Flow With-Call With-Flow Call Flow (λ t. t.0) (λ t. t.0) y))
 flow_layer (Flow-F.OfCall at t) = rolled-Flow (Flow-F.OfCall at t.0) (t.1)
@@ -104,14 +104,14 @@ statement_layer (Statement-F.OfBlock at t) = rolled-Statement (Statement-F.OfBlo
 statement_layer (Statement-F.Declare at local) = rolled-Statement (Statement-F.Declare at local) (declare local)
 statement_layer (Statement-F.Assign at assignment) = rolled-Statement (Statement-F.Assign at assignment) (assign assignment)
 statement_layer (Statement-F.CallAlone at c) = rolled-Statement (Statement-F.CallAlone at c) (call c)
-statement_layer (Statement-F.Create at target) = rolled-Statement (Statement-F.Create at target) (create at.span.from target)
+statement_layer (Statement-F.Create at target) = rolled-Statement (Statement-F.Create at target) (create at target)
 statement_layer (Statement-F.If at test t None) = rolled-Statement (Statement-F.If at test t.0 None) (branch test t.1)
 statement_layer (Statement-F.If at test t (Some u)) = rolled-Statement (Statement-F.If at test t.0 (Some u.0)) (branches test t.1 u.1)
 statement_layer (Statement-F.While at test t) = rolled-Statement (Statement-F.While at test t.0) (repeats test t.1)
 statement_layer (Statement-F.For at head t) = rolled-Statement (Statement-F.For at head t.0) (loops head.start head.test head.step t.1)
-statement_layer (Statement-F.Print at es) = rolled-Statement (Statement-F.Print at es) (print at.span.from es)
-statement_layer (Statement-F.Rtf at value) = rolled-Statement (Statement-F.Rtf at value) (rtf at.span.from at.line value)
-statement_layer (Statement-F.Return at value) = rolled-Statement (Statement-F.Return at value) (return at.span.from value)
+statement_layer (Statement-F.Print at es) = rolled-Statement (Statement-F.Print at es) (print at es)
+statement_layer (Statement-F.Rtf at value) = rolled-Statement (Statement-F.Rtf at value) (rtf at value)
+statement_layer (Statement-F.Return at value) = rolled-Statement (Statement-F.Return at value) (return at value)
 statement_layer (Statement-F.Empty at) = rolled-Statement (Statement-F.Empty at) empty
 
 block_layer : (y : Block-F With-Statement With-Block) → Good-Block (roll-Block (map-Block With-Statement With-Block Statement Block (λ t. t.0) (λ t. t.0) y))

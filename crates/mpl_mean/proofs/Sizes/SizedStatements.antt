@@ -5,18 +5,19 @@ use Rattle.std.specs.Option.{option_map}
 use Rattle.mpl_ast.specs.declared.class.ResultType.TheVariants.{Void, Typed}
 use Rattle.mpl_ast.specs.declared.expression.Expression.{Expression}
 use Rattle.mpl_ast.specs.declared.flow.Assignment.{Assignment}
+use Rattle.mpl_ast.specs.declared.place.At.{At}
 use Rattle.mpl_ast.specs.declared.program.Declaration.{Declaration}
 use Rattle.mpl_ast.specs.declared.statement.ForStart.{ForStart}
 use Rattle.mpl_ast.specs.declared.statement.ForStart.TheVariants.{Declare, Assign}
 use Rattle.mpl_ast.specs.declared.statement.Local.{Local}
 use Rattle.mpl_ast.specs.declared.statement.TypeName.{TypeName}
 use Rattle.mpl_value.specs.declared.body.Arg.{Arg}
-use Rattle.mpl_mean.specs.TypeRules.Stmt.{Stmt, Stmts, NewLocal, assigns, if_any, new_local, starts}
-use Rattle.mpl_mean.specs.TypeRules.Stmt as stmt
+use Rattle.mpl_mean.specs.Plain.Stmt.{Stmt, Stmts, NewLocal, assigns, if_any, new_local, starts}
+use Rattle.mpl_mean.specs.Plain.Stmt as stmt
 use Rattle.mpl_mean.specs.Meaning.ExpressionMeaning.{value_of}
 use Rattle.mpl_mean.specs.Meaning.Layout.{words_of}
 use Rattle.mpl_mean.specs.TypeRules.Nodes.{expr_nodes}
-use Rattle.mpl_mean.specs.TypeRules.Expr.{Expr, expr_of, expr_of_flow}
+use Rattle.mpl_mean.specs.Plain.Expr.{Expr, expr_of, expr_of_flow}
 use Rattle.mpl_mean.specs.TypeRules.Scopes.{Body, InFunction, InGuard, InMain, InMember, NoBody, in_block}
 use Rattle.mpl_mean.specs.Meaning.StatementMeaning.{Does, Effect, declares_all, gives_result, line_of, loop, nothing, returns, steps, values_of, while_loop}
 use Rattle.mpl_mean.specs.Meaning.StatementMeaning as statement
@@ -93,7 +94,7 @@ module _ (G : Frame) (S : Setting) (s : Sound G S) where
     abbrev Walked : Stmt → Type 0
     Walked a = Matches G S blocks vs × AllRight (stmt_walk a (environment G S blocks)).nodes
 
-    returns_keep : (at : ℕ) (value : Option Expression) → Keeps-Effect vs (Walked (stmt.Returns at (option_map expr_of value))) (returns (inside G S) value)
+    returns_keep : (at : At) (value : Option Expression) → Keeps-Effect vs (Walked (stmt.Returns at (option_map expr_of value))) (returns (inside G S) value)
     returns_keep at None = returned vs [] (λ p. return_none blocks S.body (p.1).0.return)
     returns_keep at (Some e) =
         so_keeps G vs (λ p. p) (λ a p h. tt)
@@ -170,13 +171,13 @@ module _ (G : Frame) (S : Setting) (s : Sound G S) where
     acts_move blocks vs (call c) =
         still_moves (Matches G S blocks) (λ p. p.0)
         (then_keeps G vs {h = λ _. nothing} (call_keeps G S s blocks vs c) (λ a. give_keeps G vs {V = λ _. Unit {0}} tt (λ p. tt)))
-    acts_move blocks vs (create at t) = still_moves (Matches G S blocks) (λ p. p.0) (create_keeps G S s blocks vs at t)
+    acts_move blocks vs (create at t) = still_moves (Matches G S blocks) (λ p. p.0) (create_keeps G S s blocks vs at.span.from t)
     acts_move blocks vs (branch {a = a} test m) =
         still_moves (Matches G S blocks) (λ p. p.0)
         (then_keeps G vs (from_premise G vs (λ p. (p.0, every_left Right (expr_nodes (environment G S blocks) (expr_of test)) _ (p.1).1)) (value_keeps G S s blocks vs (expression_means test))) (λ v.
         if_keeps G vs (is_true v)
         (scoped blocks vs a
-        (λ p. (p.0.0, every_left Right (stmt_walk a (environment G S ([] ∷ blocks))).nodes _ (every_right Right (expr_nodes (environment G S blocks) (expr_of test)) _ (p.0.1).1)))
+        (λ p. (p.0.0, every_right Right (expr_nodes (environment G S blocks) (expr_of test)) _ (p.0.1).1))
         (acts_move ([] ∷ blocks) vs m))
         (give_keeps G vs tt (λ p. tt))))
     acts_move blocks vs (branches {a = a} {b = b} test m n) =
@@ -221,10 +222,10 @@ module _ (G : Frame) (S : Setting) (s : Sound G S) where
     acts_move blocks vs (print at es) =
         still_moves (Matches G S blocks) (λ p. p.0)
         (then_keeps G vs (all_keep G vs (λ e v. Unit {0}) es _ (zip_from G vs (λ e v. Unit {0}) (λ p. (p.0, (p.1).1)) es _ (prints_each blocks vs es))) (λ values. prints_keeps G vs (line_of values)))
-    acts_move blocks vs (rtf at line value) =
+    acts_move blocks vs (rtf at value) =
         still_moves (Matches G S blocks) (λ p. p.0)
         (then_keeps G vs (from_premise G vs (λ p. (p.0, (p.1).1)) (flow_keeps G S s blocks vs value)) (λ a.
-        results_keeps G vs line a (λ p. gives_fit blocks (expr_of_flow value) a S.body refl (p.0.1).0.rtf p.1)))
+        results_keeps G vs at.line a (λ p. gives_fit blocks (expr_of_flow value) a S.body refl (p.0.1).0.rtf p.1)))
     acts_move blocks vs (return at value) = still_moves (Matches G S blocks) (λ p. p.0) (returns_keep blocks vs at value)
     acts_move blocks vs empty = still_moves (Matches G S blocks) (λ p. p.0) (give_keeps G vs {V = λ _. Unit {0}} tt (λ p. tt))
 

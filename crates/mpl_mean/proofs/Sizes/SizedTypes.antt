@@ -13,7 +13,7 @@ use Rattle.mpl_ast.specs.declared.statement.TypeName.TheVariants as type
 use Rattle.mpl_mean.proofs.Truth.{both_true}
 use Rattle.mpl_mean.specs.TypeRules.ExpressionRules.{binary_agrees, unary_agrees}
 use Rattle.mpl_mean.specs.Meaning.Layout.{class_named, classes_of, dimension_of, is_regular, struct_named, words_of, words_of_class, words_of_named, words_of_word}
-use Rattle.mpl_mean.specs.TypeRules.Expr.{Operation, Arithmetic, Comparison, Equality, Logic}
+use Rattle.mpl_mean.specs.TypeRules.Operations.{Operation, Arithmetic, Comparison, Equality, Logic}
 use Rattle.mpl_mean.specs.TypeRules.Scopes.{Body, InMember, Surrounding, is_in_member, is_persistent}
 use Rattle.mpl_mean.specs.TypeRules.Scopes as scope
 use Rattle.mpl_mean.specs.Laws.Sizes.{Every}

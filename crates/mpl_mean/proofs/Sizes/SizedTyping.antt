@@ -4,22 +4,25 @@ use Rattle.std.specs.Prelude.{is_some}
 use Rattle.std.specs.Str.{bytes_eq}
 use Rattle.mpl_ast.specs.declared.expression.Target.{Target}
 use Rattle.mpl_ast.specs.declared.expression.Target.TheVariants as target
+use Rattle.mpl_ast.specs.declared.place.At.{At}
 use Rattle.mpl_ast.specs.declared.program.Declaration.{Declaration}
+use Rattle.mpl_mean.specs.Levels.{BinaryOperator, Or, And}
 use Rattle.mpl_mean.specs.Meaning.CallMeaning.{MayName}
 use Rattle.mpl_mean.specs.Meaning.ExpressionMeaning.{Evaluates}
 use Rattle.mpl_mean.specs.TypeRules.ExpressionRules.{can_be_indexed, is_one_value, is_struct}
 use Rattle.mpl_mean.specs.Meaning.Layout.{Function, Part, dimension_of, function_named, part_named, words_of}
 use Rattle.mpl_mean.specs.TypeRules.NameRules.{has_field, meant_has_field}
 use Rattle.mpl_mean.specs.TypeRules.Nodes.{expr_nodes, target_nodes}
-use Rattle.mpl_mean.specs.TypeRules.Expr.{Expr}
-use Rattle.mpl_mean.specs.TypeRules.Expr as expr
+use Rattle.mpl_mean.specs.Plain.Expr.{Expr}
+use Rattle.mpl_mean.specs.Plain.Expr as expr
+use Rattle.mpl_mean.specs.TypeRules.Operations.{binary_operation, unary_operation}
 use Rattle.mpl_mean.specs.TypeRules.Scopes.{is_main, plain_function, variable_of}
 use Rattle.mpl_mean.specs.Laws.Sizes.{Every}
 use Rattle.mpl_mean.specs.Meaning.Store.{Variable, variable_named}
 use Rattle.mpl_mean.specs.TypeRules.Types.{Declared, InStruct, OfBool, OfClass, OfInt, OfStruct, Shape, AnArray, ARegular, OneValue, ValueType, declared_fields, first_named, is_int, meant, shape_of}
 use Rattle.mpl_mean.specs.TypeRules.Typing.{shape_behind_dot, shape_of_field, target_shape, type_of, type_of_element, type_of_plain_call, type_of_whole}
 use Rattle.mpl_mean.proofs.Sizes.SizedArguments.{function_of}
-use Rattle.mpl_mean.proofs.Sizes.SizedForms.{Means, number, truth, own, input, whole, element, plain, parenthesized, unary, arithmetic, compares, equates, or, and}
+use Rattle.mpl_mean.proofs.Sizes.SizedForms.{Means, number, truth, own, input, whole, element, plain, parenthesized, unary, arithmetic, compares, or, and}
 use Rattle.mpl_mean.proofs.Sizes.SizedPlaces.{struct_type, which}
 use Rattle.mpl_mean.proofs.Sizes.SizedRules.{AllRight, Right, WellDeclared, every_left, every_right}
 use Rattle.mpl_mean.proofs.Sizes.SizedSettings.{Matches, PlaceFits, Setting, environment}
@@ -121,17 +124,17 @@ module _ (G : Frame) (S : Setting) (well : WellProgram G.declarations) (blocks :
   abbrev Typed : Expr → Type 0
   Typed p = is_some (type_of (environment G S blocks) p) ≡ true
 
-  both : (at : ℕ) (o : expr.Operation) (p q : Expr) → Ready (expr.Binary at o p q) → (Ready p → Typed p) → (Ready q → Typed q) → Typed (expr.Binary at o p q)
-  both at o p q r h k =
+  both : (at : At) (line : ℕ) (o : BinaryOperator) (p q : Expr) → Ready (expr.Binary at line o p q) → (Ready p → Typed p) → (Ready q → Typed q) → Typed (expr.Binary at line o p q)
+  both at line o p q r h k =
       let m = there_sized (type_of (environment G S blocks) p) (h (r.0, every_left Right (expr_nodes (environment G S blocks) p) (expr_nodes (environment G S blocks) q) (r.1).1)) in
       let n = there_sized (type_of (environment G S blocks) q) (k (r.0, every_right Right (expr_nodes (environment G S blocks) p) (expr_nodes (environment G S blocks) q) (r.1).1)) in
-      sized_there _ 1 (binary_size G.declarations o (type_of (environment G S blocks) p) (type_of (environment G S blocks) q) m.0 n.0 m.1 n.1 (r.1).0.operands)
+      sized_there _ 1 (binary_size G.declarations (binary_operation o) (type_of (environment G S blocks) p) (type_of (environment G S blocks) q) m.0 n.0 m.1 n.1 (r.1).0.operands)
 
   pub type_there : {v : Evaluates} {p : Expr} {m : MayName} → Means v p m → Ready p → Typed p
   type_there (number at z) r = refl
   type_there (truth at b) r = refl
   type_there (own at) r = sized_there _ 1 (own_size G.declarations S.body S.class (r.1).0.own)
-  type_there (input at line) r = refl
+  type_there (input at) r = refl
   type_there (whole at t) r =
       let d = target_there t r.0 (r.1).1 in
       sized_there _ (words_of G.declarations (d.0).type (dimension_of (d.0).dimension))
@@ -151,9 +154,8 @@ module _ (G : Frame) (S : Setting) (well : WellProgram G.declarations) (blocks :
   type_there (parenthesized at m) r = type_there m r
   type_there (unary {p = p} at line o m) r =
       let i = there_sized (type_of (environment G S blocks) p) (type_there m (r.0, (r.1).1)) in
-      sized_there _ 1 (unary_size G.declarations (expr.unary_operation o) (type_of (environment G S blocks) p) i.0 i.1 (r.1).0.operands)
-  type_there (arithmetic {p = p} {q = q} at line o m n) r = both at expr.Arithmetic p q r (type_there m) (type_there n)
-  type_there (compares {p = p} {q = q} at o m n) r = both at expr.Comparison p q r (type_there m) (type_there n)
-  type_there (equates {p = p} {q = q} at o m n) r = both at expr.Equality p q r (type_there m) (type_there n)
-  type_there (or {p = p} {q = q} at m n) r = both at expr.Logic p q r (type_there m) (type_there n)
-  type_there (and {p = p} {q = q} at m n) r = both at expr.Logic p q r (type_there m) (type_there n)
+      sized_there _ 1 (unary_size G.declarations (unary_operation o) (type_of (environment G S blocks) p) i.0 i.1 (r.1).0.operands)
+  type_there (arithmetic {p = p} {q = q} at line operator o m n) r = both at line operator p q r (type_there m) (type_there n)
+  type_there (compares {p = p} {q = q} at line operator o m n) r = both at line operator p q r (type_there m) (type_there n)
+  type_there (or {p = p} {q = q} at line m n) r = both at line Or p q r (type_there m) (type_there n)
+  type_there (and {p = p} {q = q} at line m n) r = both at line And p q r (type_there m) (type_there n)

@@ -17,8 +17,8 @@ use Rattle.mpl_value.specs.declared.body.MemberId.{MemberId}
 use Rattle.mpl_value.specs.declared.body.Yield.{Yield}
 use Rattle.mpl_value.specs.declared.known.Known.{Known}
 use Rattle.mpl_value.specs.declared.known.Known.TheVariants as known
-use Rattle.mpl_mean.specs.TypeRules.Stmt.{stmt_of}
-use Rattle.mpl_mean.specs.TypeRules.Stmt as stmt
+use Rattle.mpl_mean.specs.Plain.Stmt.{stmt_of}
+use Rattle.mpl_mean.specs.Plain.Stmt as stmt
 use Rattle.mpl_mean.specs.Meaning.BodyMeaning.{callees_at, body_of, context_with, formals_holding, in_class, main_yield, member_body, member_yield, of_object, run, split_words, statements_of, store_of, store_with, yield_of}
 use Rattle.mpl_mean.specs.TypeRules.CallRules.{call_may_stand}
 use Rattle.mpl_mean.specs.Meaning.Context.{Context}

@@ -1,6 +1,6 @@
 -- Expressions, places, flows and calls of worked programs, each with what the type rules see of it. Of where a node stands
 -- only its first byte is written: the type rules ask for nothing else.
-use Rattle.std.proofs.Common.{ℕ, List, pos}
+use Rattle.std.proofs.Common.{ℕ, List, pos, true}
 use Rattle.std.specs.Prelude.{codes}
 use Prim.Native.String.{String}
 use Rattle.mpl_ast.specs.declared.expression.Conjunction.{roll-Conjunction, fold-roll-Conjunction}
@@ -25,8 +25,9 @@ use Rattle.mpl_ast.specs.declared.flow.Flow.{roll-Flow, fold-roll-Flow}
 use Rattle.mpl_ast.specs.declared.flow.Call.TheOpen.{Call-F, Flow-F}
 use Rattle.mpl_ast.specs.declared.place.At.{At}
 use Rattle.mpl_ast.specs.declared.place.Name.{Name}
-use Rattle.mpl_mean.specs.TypeRules.Expr.{Expr, listed, expr_of, expr_of_place, expr_of_flow, expr_of_call}
-use Rattle.mpl_mean.specs.TypeRules.Expr as expr
+use Rattle.mpl_mean.specs.Levels.{Add, Compare, Equate, Multiply}
+use Rattle.mpl_mean.specs.Plain.Expr.{Expr, listed, expr_of, expr_of_place, expr_of_flow, expr_of_call}
+use Rattle.mpl_mean.specs.Plain.Expr as expr
 use Rattle.mpl_mean.specs.FirstForms.ExpressionLevels.{expr_of_equality, expr_of_primary, expr_of_relation, expr_of_sum, expr_of_term, expr_of_unary}
 use Rattle.mpl_mean.proofs.SmallPrograms.Shown.{Shown, all_trees, all_seen, seen_each}
 
@@ -89,26 +90,26 @@ abbrev pub field : ℕ → String → ℕ → String → Target
 field from text field_from field_text = target.Field (at from) (name from text) (name field_from field_text)
 
 abbrev pub whole : ℕ → Target → Shown expr_of_place
-whole from t = record { tree = roll-Place (Place-F.Whole (at from) t); seen = expr.Whole from t; is = simp layers }
+whole from t = record { tree = roll-Place (Place-F.Whole (at from) t); seen = expr.Whole (at from) t; is = simp layers }
 
 abbrev pub element : ℕ → Target → Shown expr_of → Shown expr_of_place
 element from t index = record {
   tree = roll-Place (Place-F.Element (at from) 1 t index.tree);
-  seen = expr.Element from t index.seen;
+  seen = expr.Element (at from) 1 t index.seen;
   is = simp (layers, index.is);
 }
 
 abbrev pub number : ℕ → Shown expr_of_primary
-number from = record { tree = roll-Primary (Primary-F.Number (at from) (pos 1)); seen = expr.Number from; is = simp layers }
+number from = record { tree = roll-Primary (Primary-F.Number (at from) (pos 1)); seen = expr.Number (at from) (pos 1); is = simp layers }
 
 abbrev pub truth : ℕ → Shown expr_of_primary
-truth from = record { tree = roll-Primary (Primary-F.True (at from)); seen = expr.Truth from; is = simp layers }
+truth from = record { tree = roll-Primary (Primary-F.True (at from)); seen = expr.Truth (at from) true; is = simp layers }
 
 abbrev pub own : ℕ → Shown expr_of_primary
-own from = record { tree = roll-Primary (Primary-F.Own (at from)); seen = expr.Own from; is = simp layers }
+own from = record { tree = roll-Primary (Primary-F.Own (at from)); seen = expr.Own (at from); is = simp layers }
 
 abbrev pub input : ℕ → Shown expr_of_primary
-input from = record { tree = roll-Primary (Primary-F.Input (at from)); seen = expr.Input from; is = simp layers }
+input from = record { tree = roll-Primary (Primary-F.Input (at from)); seen = expr.Input (at from); is = simp layers }
 
 abbrev pub read : ℕ → Shown expr_of_place → Shown expr_of_primary
 read from p = record { tree = roll-Primary (Primary-F.Read (at from) p.tree); seen = p.seen; is = simp (layers, p.is) }
@@ -116,14 +117,14 @@ read from p = record { tree = roll-Primary (Primary-F.Read (at from) p.tree); se
 abbrev pub inner : ℕ → Shown expr_of → Shown expr_of_primary
 inner from e = record {
   tree = roll-Primary (Primary-F.Parenthesized (at from) e.tree);
-  seen = expr.Parenthesized from e.seen;
+  seen = expr.Parenthesized (at from) e.seen;
   is = simp (layers, e.is);
 }
 
 abbrev pub plain_call : ℕ → String → List (Shown expr_of) → Shown expr_of_primary
 plain_call from function arguments = record {
   tree = roll-Primary (Primary-F.CallPlain (at from) (name from function) (all_trees arguments));
-  seen = expr.PlainCall from (name from function) (listed (all_seen arguments));
+  seen = expr.PlainCall (at from) (name from function) (listed (all_seen arguments));
   is = simp (layers, seen_each expr_of arguments);
 }
 
@@ -131,7 +132,7 @@ plain_call from function arguments = record {
 abbrev pub plus : ℕ → Shown expr_of_sum → Shown expr_of_term → Shown expr_of_sum
 plus from left right = record {
   tree = roll-Sum (Sum-F.Add (at from) 1 left.tree Plus right.tree);
-  seen = expr.Binary from expr.Arithmetic left.seen right.seen;
+  seen = expr.Binary (at from) 1 (Add Plus) left.seen right.seen;
   is = simp (layers, left.is, right.is);
 }
 
@@ -139,7 +140,7 @@ plus from left right = record {
 abbrev pub minus : ℕ → Shown expr_of_sum → Shown expr_of_term → Shown expr_of_sum
 minus from left right = record {
   tree = roll-Sum (Sum-F.Add (at from) 1 left.tree Minus right.tree);
-  seen = expr.Binary from expr.Arithmetic left.seen right.seen;
+  seen = expr.Binary (at from) 1 (Add Minus) left.seen right.seen;
   is = simp (layers, left.is, right.is);
 }
 
@@ -147,7 +148,7 @@ minus from left right = record {
 abbrev pub times : ℕ → Shown expr_of_term → Shown expr_of_unary → Shown expr_of_term
 times from left right = record {
   tree = roll-Term (Term-F.Multiply (at from) 1 left.tree Times right.tree);
-  seen = expr.Binary from expr.Arithmetic left.seen right.seen;
+  seen = expr.Binary (at from) 1 (Multiply Times) left.seen right.seen;
   is = simp (layers, left.is, right.is);
 }
 
@@ -155,7 +156,7 @@ times from left right = record {
 abbrev pub negated : ℕ → Shown expr_of_unary → Shown expr_of_unary
 negated from operand = record {
   tree = roll-Unary (Unary-F.Apply (at from) 1 Not operand.tree);
-  seen = expr.Unary from expr.Logic operand.seen;
+  seen = expr.Unary (at from) 1 Not operand.seen;
   is = simp (layers, operand.is);
 }
 
@@ -163,7 +164,7 @@ negated from operand = record {
 abbrev pub less : ℕ → Shown expr_of_relation → Shown expr_of_sum → Shown expr_of_relation
 less from left right = record {
   tree = roll-Relation (Relation-F.Compare (at from) 1 left.tree Less right.tree);
-  seen = expr.Binary from expr.Comparison left.seen right.seen;
+  seen = expr.Binary (at from) 1 (Compare Less) left.seen right.seen;
   is = simp (layers, left.is, right.is);
 }
 
@@ -171,7 +172,7 @@ less from left right = record {
 abbrev pub equal : ℕ → Shown expr_of_equality → Shown expr_of_relation → Shown expr_of_equality
 equal from left right = record {
   tree = roll-Equality (Equality-F.Equate (at from) 1 left.tree Equal right.tree);
-  seen = expr.Binary from expr.Equality left.seen right.seen;
+  seen = expr.Binary (at from) 1 (Equate Equal) left.seen right.seen;
   is = simp (layers, left.is, right.is);
 }
 
@@ -180,14 +181,14 @@ equal from left right = record {
 abbrev pub call : ℕ → Target → ℕ → String → List (Shown expr_of_flow) → Shown expr_of_call
 call from t member_from member arguments = record {
   tree = roll-Call (Call-F.OnTarget (at from) t (name member_from member) (all_trees arguments));
-  seen = expr.CallOnTarget from t (name member_from member) (listed (all_seen arguments));
+  seen = expr.CallOnTarget (at from) t (name member_from member) (listed (all_seen arguments));
   is = simp (layers, seen_each expr_of_flow arguments);
 }
 
 abbrev pub own_call : ℕ → ℕ → String → List (Shown expr_of_flow) → Shown expr_of_call
 own_call from member_from member arguments = record {
   tree = roll-Call (Call-F.OnOwn (at from) (name member_from member) (all_trees arguments));
-  seen = expr.CallOnOwn from (name member_from member) (listed (all_seen arguments));
+  seen = expr.CallOnOwn (at from) (name member_from member) (listed (all_seen arguments));
   is = simp (layers, seen_each expr_of_flow arguments);
 }
 

@@ -17,9 +17,9 @@ use Rattle.mpl_ast.specs.declared.program.Declaration.TheVariants as declaration
 use Rattle.mpl_ast.specs.declared.program.Program.{Program}
 use Rattle.mpl_ast.specs.declared.statement.Dimension.{Dimension}
 use Rattle.mpl_ast.specs.declared.statement.TypeName.{TypeName}
-use Rattle.mpl_mean.specs.TypeRules.Stmt.{stmt_of, in_turn}
+use Rattle.mpl_mean.specs.Plain.Stmt.{stmt_of, in_turn}
 use Rattle.mpl_mean.specs.Meaning.Layout.{formals_of}
-use Rattle.mpl_mean.specs.TypeRules.Expr.{expr_of}
+use Rattle.mpl_mean.specs.Plain.Expr.{expr_of}
 use Rattle.mpl_mean.specs.TypeRules.ProgramNodes.{Inside, OfRoutine, OfGuard, inside_declaration, inside_item, guards_of_entry, surrounding, nodes_with}
 use Rattle.mpl_mean.specs.TypeRules.Rules.{Failure, failures, failures_among, is_empty, is_typed, least, least_failure, rules}
 use Rattle.mpl_mean.specs.TypeRules.Scopes.{Environment, at_top, in_class}

@@ -11,9 +11,9 @@ use Rattle.mpl_ast.specs.declared.statement.Statement.{roll-Statement, fold-roll
 use Rattle.mpl_ast.specs.declared.statement.Statement.TheOpen.{Statement-F}
 use Rattle.mpl_ast.specs.declared.statement.TypeName.{TypeName}
 use Rattle.mpl_ast.specs.declared.statement.TypeName.TheVariants as type
-use Rattle.mpl_mean.specs.TypeRules.Stmt.{Stmt, stmt_of, new_local, in_turn, assigns, starts}
-use Rattle.mpl_mean.specs.TypeRules.Stmt as stmt
-use Rattle.mpl_mean.specs.TypeRules.Expr.{Expr, expr_of, expr_of_place, expr_of_flow, expr_of_call}
+use Rattle.mpl_mean.specs.Plain.Stmt.{Stmt, stmt_of, new_local, in_turn, assigns, starts}
+use Rattle.mpl_mean.specs.Plain.Stmt as stmt
+use Rattle.mpl_mean.specs.Plain.Expr.{Expr, expr_of, expr_of_place, expr_of_flow, expr_of_call}
 use Rattle.mpl_mean.proofs.SmallPrograms.Expressions.{at, name}
 use Rattle.mpl_mean.proofs.SmallPrograms.Shown.{Shown, all_trees, all_seen, seen_each, tree_if_any, seen_if_any, is_if_any}
 
@@ -55,8 +55,8 @@ local type from declarators = record {
 abbrev pub assignment : ℕ → Shown expr_of_place → Shown expr_of_flow → Shown assigns
 assignment from place value = record {
   tree = record { at = at from; place = place.tree; value = value.tree };
-  seen = stmt.Assigns from place.seen value.seen;
-  is = ap₂ (stmt.Assigns from) place.is value.is;
+  seen = stmt.Assigns (at from) place.seen value.seen;
+  is = ap₂ (stmt.Assigns (at from)) place.is value.is;
 }
 
 -- ---- statements
@@ -88,12 +88,12 @@ abbrev pub call_alone : ℕ → Shown expr_of_call → Shown stmt_of
 call_alone from c = record { tree = roll-Statement (Statement-F.CallAlone (at from) c.tree); seen = stmt.Calls c.seen; is = simp (fold-roll-Statement, c.is) }
 
 abbrev pub create : ℕ → Target → Shown stmt_of
-create from t = record { tree = roll-Statement (Statement-F.Create (at from) t); seen = stmt.Creates from t; is = simp fold-roll-Statement }
+create from t = record { tree = roll-Statement (Statement-F.Create (at from) t); seen = stmt.Creates (at from) t; is = simp fold-roll-Statement }
 
 abbrev pub when : ℕ → Shown expr_of → Shown stmt_of → Shown stmt_of
 when from test then_part = record {
   tree = roll-Statement (Statement-F.If (at from) test.tree then_part.tree None);
-  seen = stmt.Branches test.seen then_part.seen stmt.Nothing;
+  seen = stmt.When test.seen then_part.seen;
   is = simp (fold-roll-Statement, test.is, then_part.is);
 }
 
@@ -131,16 +131,16 @@ repeat from test body = record {
 abbrev pub print : ℕ → List (Shown expr_of) → Shown stmt_of
 print from arguments = record {
   tree = roll-Statement (Statement-F.Print (at from) (all_trees arguments));
-  seen = stmt.Prints from (all_seen arguments);
+  seen = stmt.Prints (at from) (all_seen arguments);
   is = simp (fold-roll-Statement, seen_each expr_of arguments);
 }
 
 abbrev pub rtf : ℕ → Shown expr_of_flow → Shown stmt_of
-rtf from value = record { tree = roll-Statement (Statement-F.Rtf (at from) value.tree); seen = stmt.Gives from value.seen; is = simp (fold-roll-Statement, value.is) }
+rtf from value = record { tree = roll-Statement (Statement-F.Rtf (at from) value.tree); seen = stmt.Gives (at from) value.seen; is = simp (fold-roll-Statement, value.is) }
 
 abbrev pub return : ℕ → Option (Shown expr_of) → Shown stmt_of
 return from value = record {
   tree = roll-Statement (Statement-F.Return (at from) (tree_if_any value));
-  seen = stmt.Returns from (seen_if_any value);
-  is = simp fold-roll-Statement (ap (stmt.Returns from) (is_if_any expr_of value));
+  seen = stmt.Returns (at from) (seen_if_any value);
+  is = simp fold-roll-Statement (ap (stmt.Returns (at from)) (is_if_any expr_of value));
 }

@@ -5,7 +5,7 @@ use Rattle.mpl_ast.specs.declared.class.Item.TheVariants as item
 use Rattle.mpl_ast.specs.declared.class.ResultType.TheVariants.{Typed}
 use Rattle.mpl_ast.specs.declared.program.Declaration.{Declaration}
 use Rattle.mpl_ast.specs.declared.statement.TypeName.TheVariants as type
-use Rattle.mpl_mean.specs.TypeRules.Stmt.{NoStmt}
+use Rattle.mpl_mean.specs.Plain.Stmt.{NoStmt}
 use Rattle.mpl_mean.specs.TypeRules.Nodes.{ADeclaration}
 use Rattle.mpl_mean.specs.TypeRules.ProgramNodes.{OfRoutine}
 use Rattle.mpl_mean.specs.TypeRules.Rules.{is_typed, least_failure}

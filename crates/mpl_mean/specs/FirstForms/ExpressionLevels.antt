@@ -11,7 +11,7 @@ use Rattle.mpl_mean.specs.Levels.{conjunction_by, equality_by, relation_by, sum_
 use Rattle.mpl_mean.specs.Meaning.CallMeaning.{MayName, name_of_forms}
 use Rattle.mpl_mean.specs.Meaning.ExpressionMeaning.{Evaluates, value_of_forms}
 use Rattle.mpl_mean.specs.Text.ExpressionText.{text_of_forms}
-use Rattle.mpl_mean.specs.TypeRules.Expr.{Expr, expr_of_forms}
+use Rattle.mpl_mean.specs.Plain.Expr.{Expr, expr_of_forms}
 use Rattle.mpl_mean.specs.Text.Reading.{Reads}
 
 -- ---- tokens

@@ -6,7 +6,7 @@ use Rattle.mpl_ast.specs.declared.class.ResultType.TheVariants.{Void, Typed}
 use Rattle.mpl_mean.specs.Meaning.Layout.{natural}
 use Rattle.mpl_mean.specs.TypeRules.Nodes.{Node, Located, expr_nodes}
 use Rattle.mpl_mean.specs.TypeRules.Nodes as node
-use Rattle.mpl_mean.specs.TypeRules.Expr.{Expr}
+use Rattle.mpl_mean.specs.Plain.Expr.{Expr}
 use Rattle.mpl_mean.specs.TypeRules.Scopes.{Environment, is_persistent}
 use Rattle.mpl_mean.specs.TypeRules.Types.{OfBool, agree}
 use Rattle.mpl_mean.specs.TypeRules.Typing.{type_of}

@@ -2,7 +2,7 @@
 use Rattle.std.specs.Prelude.{Bool, true, false, ◌&&◌, ◌||◌, Option, Some, None}
 use Rattle.mpl_mean.specs.TypeRules.Nodes.{Node}
 use Rattle.mpl_mean.specs.TypeRules.Nodes as node
-use Rattle.mpl_mean.specs.TypeRules.Expr.{Operation}
+use Rattle.mpl_mean.specs.TypeRules.Operations.{Operation}
 use Rattle.mpl_mean.specs.TypeRules.Scopes.{Environment}
 use Rattle.mpl_mean.specs.TypeRules.Types.{ValueType, OfBool, OfStruct, is_int, is_bool, agree, Shape, OneValue, AnArray, ARegular, shape_of}
 use Rattle.mpl_mean.specs.TypeRules.Typing.{target_shape, variable_shape, takes, takes_both, type_of, type_of_whole}

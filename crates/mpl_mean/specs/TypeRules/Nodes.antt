@@ -7,8 +7,9 @@ use Rattle.mpl_ast.specs.declared.expression.Target.TheVariants as target
 use Rattle.mpl_ast.specs.declared.place.Name.{Name}
 use Rattle.mpl_ast.specs.declared.program.Declaration.{Declaration}
 use Rattle.mpl_ast.specs.declared.statement.TypeName.{TypeName}
-use Rattle.mpl_mean.specs.TypeRules.Expr.{Operation, Expr, Exprs}
-use Rattle.mpl_mean.specs.TypeRules.Expr as expr
+use Rattle.mpl_mean.specs.Plain.Expr.{Expr, Exprs}
+use Rattle.mpl_mean.specs.Plain.Expr as expr
+use Rattle.mpl_mean.specs.TypeRules.Operations.{Operation, binary_operation, unary_operation}
 use Rattle.mpl_mean.specs.TypeRules.Scopes.{Environment}
 use Rattle.mpl_mean.specs.TypeRules.Types.{Declared, Role}
 
@@ -88,23 +89,23 @@ call_nodes at environment receiver member arguments =
 
 abbrev mutual
   pub expr_nodes : Environment → Expr → List Located
-  expr_nodes environment (expr.Number at) = []
-  expr_nodes environment (expr.Truth at) = []
-  expr_nodes environment (expr.Own at) = place at environment AnOwn ∷ []
-  expr_nodes environment (expr.Input at) = place at environment AnInput ∷ []
-  expr_nodes environment (expr.Whole at target) = place at environment (WholePlace target) ∷ target_nodes environment target
-  expr_nodes environment (expr.Element at target index) =
-      place at environment (Indexed target index) ∷ target_nodes environment target ++ expr_nodes environment index
+  expr_nodes environment (expr.Number at value) = []
+  expr_nodes environment (expr.Truth at value) = []
+  expr_nodes environment (expr.Own at) = place at.span.from environment AnOwn ∷ []
+  expr_nodes environment (expr.Input at) = place at.span.from environment AnInput ∷ []
+  expr_nodes environment (expr.Whole at target) = place at.span.from environment (WholePlace target) ∷ target_nodes environment target
+  expr_nodes environment (expr.Element at line target index) =
+      place at.span.from environment (Indexed target index) ∷ target_nodes environment target ++ expr_nodes environment index
   expr_nodes environment (expr.PlainCall at function arguments) =
-      place function.from environment (UsedFunction function) ∷ place at environment (APlainCall function arguments) ∷ nodes_of_each environment arguments
+      place function.from environment (UsedFunction function) ∷ place at.span.from environment (APlainCall function arguments) ∷ nodes_of_each environment arguments
   expr_nodes environment (expr.Parenthesized at inner) = expr_nodes environment inner
-  expr_nodes environment (expr.Unary at operation operand) = place at environment (UnaryOperation operation operand) ∷ expr_nodes environment operand
-  expr_nodes environment (expr.Binary at operation left right) =
-      place at environment (BinaryOperation operation left right) ∷ expr_nodes environment left ++ expr_nodes environment right
+  expr_nodes environment (expr.Unary at line operator operand) = place at.span.from environment (UnaryOperation (unary_operation operator) operand) ∷ expr_nodes environment operand
+  expr_nodes environment (expr.Binary at line operator left right) =
+      place at.span.from environment (BinaryOperation (binary_operation operator) left right) ∷ expr_nodes environment left ++ expr_nodes environment right
   expr_nodes environment (expr.CallOnOwn at member arguments) =
-      place at environment (PassedOn None member) ∷ call_nodes at environment None member arguments ++ nodes_of_each environment arguments
+      place at.span.from environment (PassedOn None member) ∷ call_nodes at.span.from environment None member arguments ++ nodes_of_each environment arguments
   expr_nodes environment (expr.CallOnTarget at target member arguments) =
-      place at environment (PassedOn (Some target) member) ∷ call_nodes at environment (Some target) member arguments ++ nodes_of_each environment arguments
+      place at.span.from environment (PassedOn (Some target) member) ∷ call_nodes at.span.from environment (Some target) member arguments ++ nodes_of_each environment arguments
 
   pub nodes_of_each : Environment → Exprs → List Located
   nodes_of_each environment expr.NoExpr = []
@@ -112,7 +113,7 @@ abbrev mutual
 
 -- a call that is a whole statement
 abbrev pub statement_call_nodes : Environment → Expr → List Located
-statement_call_nodes environment (expr.CallOnOwn at member arguments) = call_nodes at environment None member arguments ++ nodes_of_each environment arguments
+statement_call_nodes environment (expr.CallOnOwn at member arguments) = call_nodes at.span.from environment None member arguments ++ nodes_of_each environment arguments
 statement_call_nodes environment (expr.CallOnTarget at target member arguments) =
-    call_nodes at environment (Some target) member arguments ++ nodes_of_each environment arguments
+    call_nodes at.span.from environment (Some target) member arguments ++ nodes_of_each environment arguments
 statement_call_nodes environment other = expr_nodes environment other

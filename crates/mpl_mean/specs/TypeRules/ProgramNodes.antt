@@ -17,11 +17,11 @@ use Rattle.mpl_ast.specs.declared.program.Declaration.TheVariants as declaration
 use Rattle.mpl_ast.specs.declared.program.Program.{Program}
 use Rattle.mpl_ast.specs.declared.statement.Block.{Block}
 use Rattle.mpl_ast.specs.declared.statement.TypeName.{TypeName}
-use Rattle.mpl_mean.specs.TypeRules.Stmt.{Stmts, stmts_of}
+use Rattle.mpl_mean.specs.Plain.Stmt.{Stmts, stmts_of}
 use Rattle.mpl_mean.specs.Meaning.Layout.{Member, is_regular, formals_of}
 use Rattle.mpl_mean.specs.TypeRules.Nodes.{Located, place, expr_nodes}
 use Rattle.mpl_mean.specs.TypeRules.Nodes as node
-use Rattle.mpl_mean.specs.TypeRules.Expr.{Expr, begins, expr_of}
+use Rattle.mpl_mean.specs.Plain.Expr.{Expr, begins, expr_of}
 use Rattle.mpl_mean.specs.TypeRules.Scopes.{Environment, Body, InGuard, InMain, InFunction, InMember, Surrounding, at_top, in_class, in_body, is_main}
 use Rattle.mpl_mean.specs.TypeRules.StatementNodes.{stmts_walk, locals_among, type_at, type_nodes, dimension_nodes}
 use Rattle.mpl_mean.specs.TypeRules.Types.{Role, InState, InStruct, AsFormal, AsResult, declared_formals}

@@ -4,11 +4,11 @@ use Rattle.std.specs.List.{list_all}
 use Rattle.mpl_ast.specs.declared.statement.Dimension.{Dimension}
 use Rattle.mpl_ast.specs.declared.statement.TypeName.{TypeName}
 use Rattle.mpl_ast.specs.declared.statement.TypeName.TheVariants as type
-use Rattle.mpl_mean.specs.TypeRules.Stmt.{Stmt, Stmts, NewLocal}
-use Rattle.mpl_mean.specs.TypeRules.Stmt as stmt
+use Rattle.mpl_mean.specs.Plain.Stmt.{Stmt, Stmts, NewLocal}
+use Rattle.mpl_mean.specs.Plain.Stmt as stmt
 use Rattle.mpl_mean.specs.TypeRules.Nodes.{Node, Located, place, expr_nodes, statement_call_nodes, target_nodes}
 use Rattle.mpl_mean.specs.TypeRules.Nodes as node
-use Rattle.mpl_mean.specs.TypeRules.Expr.{Expr, begins}
+use Rattle.mpl_mean.specs.Plain.Expr.{Expr, begins}
 use Rattle.mpl_mean.specs.TypeRules.Scopes.{Environment, in_block, behind, names_beside}
 use Rattle.mpl_mean.specs.TypeRules.Types.{Declared, Role, AsLocal}
 
@@ -98,17 +98,18 @@ abbrev mutual
   stmt_walk stmt.Nothing = no_node
   stmt_walk (stmt.Within stmts) = scoped (stmts_walk stmts)
   stmt_walk (stmt.Locals type locals) = with_nodes (type_nodes AsLocal (list_all is_bare locals) type) ⨾ locals_walk type locals
-  stmt_walk (stmt.Assigns at target value) = one at (node.Assigned target value) ⨾ expr_walk target ⨾ expr_walk value
+  stmt_walk (stmt.Assigns at target value) = one at.span.from (node.Assigned target value) ⨾ expr_walk target ⨾ expr_walk value
   stmt_walk (stmt.Calls call) = with_nodes (λ environment. statement_call_nodes environment call)
-  stmt_walk (stmt.Creates at target) = one at (node.ACreate target) ⨾ with_nodes (λ environment. target_nodes environment target)
+  stmt_walk (stmt.Creates at target) = one at.span.from (node.ACreate target) ⨾ with_nodes (λ environment. target_nodes environment target)
+  stmt_walk (stmt.When test then_part) = one (begins test) (node.ATest test) ⨾ expr_walk test ⨾ scoped (stmt_walk then_part)
   stmt_walk (stmt.Branches test then_part else_part) =
       one (begins test) (node.ATest test) ⨾ expr_walk test ⨾ scoped (stmt_walk then_part) ⨾ scoped (stmt_walk else_part)
   stmt_walk (stmt.Repeats test body) = one (begins test) (node.ATest test) ⨾ expr_walk test ⨾ scoped (stmt_walk body)
   stmt_walk (stmt.Loops start test step body) =
       scoped (stmt_walk start ⨾ one (begins test) (node.ATest test) ⨾ expr_walk test ⨾ stmt_walk step ⨾ scoped (stmt_walk body))
-  stmt_walk (stmt.Prints at arguments) = one at node.APrint ⨾ print_walk arguments
-  stmt_walk (stmt.Gives at value) = one at (node.AnRtf value) ⨾ expr_walk value
-  stmt_walk (stmt.Returns at value) = one at (node.AReturn value) ⨾ exprs_if_any value
+  stmt_walk (stmt.Prints at arguments) = one at.span.from node.APrint ⨾ print_walk arguments
+  stmt_walk (stmt.Gives at value) = one at.span.from (node.AnRtf value) ⨾ expr_walk value
+  stmt_walk (stmt.Returns at value) = one at.span.from (node.AReturn value) ⨾ exprs_if_any value
 
   pub stmts_walk : Stmts → Walks
   stmts_walk stmt.NoStmt = no_node

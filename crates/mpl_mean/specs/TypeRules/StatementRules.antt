@@ -3,7 +3,7 @@ use Rattle.std.specs.Prelude.{Bool, true, false, Option, Some, None}
 use Rattle.mpl_ast.specs.declared.class.ResultType.TheVariants.{Typed}
 use Rattle.mpl_mean.specs.TypeRules.Nodes.{Node}
 use Rattle.mpl_mean.specs.TypeRules.Nodes as node
-use Rattle.mpl_mean.specs.TypeRules.Expr.{Expr}
+use Rattle.mpl_mean.specs.Plain.Expr.{Expr}
 use Rattle.mpl_mean.specs.TypeRules.Scopes.{Environment, Body, InMain, InFunction, InMember, is_in_main}
 use Rattle.mpl_mean.specs.TypeRules.Types.{OfInt, AsResult, agree, meant, value_type}
 use Rattle.mpl_mean.specs.TypeRules.Typing.{type_of}

@@ -8,8 +8,9 @@ use Rattle.mpl_ast.specs.declared.expression.Target.{Target}
 use Rattle.mpl_ast.specs.declared.expression.Target.TheVariants as target
 use Rattle.mpl_ast.specs.declared.program.Declaration.{Declaration}
 use Rattle.mpl_mean.specs.Meaning.Layout.{Function, Member, member_named, members_from}
-use Rattle.mpl_mean.specs.TypeRules.Expr.{Operation, Arithmetic, Comparison, Equality, Logic, Expr, Exprs}
-use Rattle.mpl_mean.specs.TypeRules.Expr as expr
+use Rattle.mpl_mean.specs.Plain.Expr.{Expr, Exprs}
+use Rattle.mpl_mean.specs.Plain.Expr as expr
+use Rattle.mpl_mean.specs.TypeRules.Operations.{Operation, Arithmetic, Comparison, Equality, Logic, binary_operation, unary_operation}
 use Rattle.mpl_mean.specs.TypeRules.Scopes.{Environment, Body, InMember, Surrounding, variable_of, plain_function}
 use Rattle.mpl_mean.specs.TypeRules.Types.{ValueType, OfInt, OfBool, OfStruct, OfClass, is_int, is_bool, agree, Meant, AStruct, AClass, meant, meant_by, InStruct, AsFormal, AsResult, value_type, result_type, first_named, declared_fields, Shape, OneValue, AnArray, ARegular, shape_of}
 
@@ -123,16 +124,16 @@ arguments_agree arguments formals = (length arguments == length formals) && (lis
 -- ---- the whole of it
 
 abbrev pub type_of : Environment → Expr → Option ValueType
-type_of environment (expr.Number at) = Some OfInt
-type_of environment (expr.Truth at) = Some OfBool
+type_of environment (expr.Number at value) = Some OfInt
+type_of environment (expr.Truth at value) = Some OfBool
 type_of environment (expr.Own at) = own_type environment
 type_of environment (expr.Input at) = Some OfInt
 type_of environment (expr.Whole at target) = type_of_whole (target_shape environment target)
-type_of environment (expr.Element at target index) = type_of_element (target_shape environment target) (type_of environment index)
+type_of environment (expr.Element at line target index) = type_of_element (target_shape environment target) (type_of environment index)
 type_of environment (expr.PlainCall at function arguments) = type_of_plain_call environment.declarations (plain_function environment function.text)
 type_of environment (expr.Parenthesized at inner) = type_of environment inner
-type_of environment (expr.Unary at operation operand) = type_of_unary operation (type_of environment operand)
-type_of environment (expr.Binary at operation left right) = type_of_binary operation (type_of environment left) (type_of environment right)
+type_of environment (expr.Unary at line operator operand) = type_of_unary (unary_operation operator) (type_of environment operand)
+type_of environment (expr.Binary at line operator left right) = type_of_binary (binary_operation operator) (type_of environment left) (type_of environment right)
 type_of environment (expr.CallOnOwn at member arguments) = type_of_call environment.declarations (member_called environment None member.text)
 type_of environment (expr.CallOnTarget at target member arguments) = type_of_call environment.declarations (member_called environment (Some target) member.text)
 
