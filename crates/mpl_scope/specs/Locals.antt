@@ -2,8 +2,8 @@
 use Rattle.std.specs.Prelude.{List, [], ◌++◌, map, drop}
 use Rattle.mpl_mean.specs.TypeRules.Scopes.{Environment}
 use Rattle.mpl_mean.specs.TypeRules.StatementNodes.{declared_local}
-use Rattle.mpl_mean.specs.TypeRules.Stmt.{Stmt, Stmts}
-use Rattle.mpl_mean.specs.TypeRules.Stmt as stmt
+use Rattle.mpl_mean.specs.Plain.Stmt.{Stmt, Stmts}
+use Rattle.mpl_mean.specs.Plain.Stmt as stmt
 use Rattle.mpl_mean.specs.TypeRules.Types.{Declared}
 
 -- without the innermost block
@@ -20,6 +20,7 @@ abbrev mutual
   stmt_locals (stmt.Assigns at target value) = []
   stmt_locals (stmt.Calls call) = []
   stmt_locals (stmt.Creates at target) = []
+  stmt_locals (stmt.When test then_part) = stmt_locals then_part
   stmt_locals (stmt.Branches test then_part else_part) = stmt_locals then_part ++ stmt_locals else_part
   stmt_locals (stmt.Repeats test body) = stmt_locals body
   stmt_locals (stmt.Loops start test step body) = stmt_locals start ++ (stmt_locals step ++ stmt_locals body)

@@ -1,17 +1,17 @@
 -- What the checker's own types stand for.
 use Rattle.std.specs.Prelude.{Option, option_map}
-use Rattle.mpl_mean.specs.TypeRules.Expr as expr
+use Rattle.mpl_mean.specs.TypeRules.Operations as rules
 use Rattle.mpl_mean.specs.TypeRules.Types as types
 use Rattle.mpl_scope.specs.declared.types.Operation.{Operation}
 use Rattle.mpl_scope.specs.declared.types.Operation.TheVariants as operation
 use Rattle.mpl_scope.specs.declared.types.ValueType.{ValueType}
 use Rattle.mpl_scope.specs.declared.types.ValueType.TheVariants as value
 
-abbrev pub seen_operation : Operation → expr.Operation
-seen_operation operation.Arithmetic = expr.Arithmetic
-seen_operation operation.Comparison = expr.Comparison
-seen_operation operation.Equality = expr.Equality
-seen_operation operation.Logic = expr.Logic
+abbrev pub seen_operation : Operation → rules.Operation
+seen_operation operation.Arithmetic = rules.Arithmetic
+seen_operation operation.Comparison = rules.Comparison
+seen_operation operation.Equality = rules.Equality
+seen_operation operation.Logic = rules.Logic
 
 abbrev pub seen_type : ValueType → types.ValueType
 seen_type value.Int = types.OfInt

@@ -8,11 +8,15 @@ ghost use Rattle.mpl_mean.specs.TypeRules.Types.{InState, InStruct, declared_by,
 ghost use Rattle.mpl_scope.specs.SeenDeclared.{seen_declared, seen_role};
 
 use crate::first_named::FirstNamed;
+use crate::types::is_same;
 use mpl_ast::class::{Field, Formal, Item};
 use mpl_ast::statement::{Dimension, TypeName};
 use mpl_value::NoMemory;
 use std::alloc::Global;
 use std::marker::Model;
+
+/// So many names are compared one by one, which takes less than a table of them.
+const FEW: usize = 8;
 
 /// Where a type is written.
 #[derive(Clone, Copy)]
@@ -33,15 +37,16 @@ pub struct Declared<'a> {
     pub dimension: Option<Dimension>,
 }
 
-/// Variables or fields in their order, and the first of each name.
+/// Variables or fields in their order.
 #[derive(Drop)]
 pub struct Names<'a> {
     list: Vec<Declared<'a>>,
-    first: FirstNamed<'a, Declared<'a>>,
+    /// The first of each name behind the first few of the list.
+    more: FirstNamed<'a, Declared<'a>>,
 }
 
 impl<'a> Model for Names<'a> {
-    ghost use Rattle.std.specs.Prelude.{◌≡◌, List, ℕ, map, option_map};
+    ghost use Rattle.std.specs.Prelude.{◌≡◌, List, ℕ, drop, map, option_map};
     ghost use Rattle.mpl_mean.specs.TypeRules.Types.{Declared, first_named};
     ghost use Rattle.mpl_scope.specs.First.{at};
     ghost use Rattle.mpl_scope.specs.SeenDeclared.{seen_declared};
@@ -50,7 +55,18 @@ impl<'a> Model for Names<'a> {
 
     ghost view = { λ n. map seen_declared n.list.items };
 
-    ghost invariant = { λ n. (name : List ℕ) → option_map seen_declared (at n.first name) ≡ first_named name (map seen_declared n.list.items) };
+    ghost invariant = { λ n. (name : List ℕ) → option_map seen_declared (at n.more name) ≡ first_named name (map seen_declared (drop 8 n.list.items)) };
+}
+
+fn first_among<'a>(list: &[Declared<'a>], name: &[u8]) -> Option<Declared<'a>>
+    ensures { option_map seen_declared result ≡ first_named name.now (map seen_declared list.now) }
+{
+    for declared in list {
+        if is_same(declared.name, name) {
+            return Some(*declared);
+        }
+    }
+    None
 }
 
 impl<'a> Names<'a> {
@@ -59,7 +75,7 @@ impl<'a> Names<'a> {
     {
         Names {
             list: Vec::new(alloc),
-            first: FirstNamed::new(alloc),
+            more: FirstNamed::new(alloc),
         }
     }
 
@@ -73,7 +89,12 @@ impl<'a> Names<'a> {
     pub fn find(&self, name: &'a [u8]) -> Option<Declared<'a>>
         ensures { option_map seen_declared result ≡ first_named name.now self.now }
     {
-        self.first.find(name).copied()
+        let few = usize::min(self.list.len(), FEW);
+        let found = first_among(&self.list.as_slice()[..few], name);
+        if found.is_some() || few < FEW {
+            return found;
+        }
+        self.more.find(name).copied()
     }
 
     pub fn has(&self, name: &'a [u8]) -> bool
@@ -86,8 +107,12 @@ impl<'a> Names<'a> {
     pub fn add(&mut self, declared: Declared<'a>) -> Result<(), NoMemory>
         ensures ok { OnOk result (self.new ≡ self.old ++ seen_declared declared.entry ∷ []) }
     {
+        if self.list.len() < FEW {
+            self.list.push(declared)?;
+            return Ok(());
+        }
         self.list.push(declared)?;
-        match self.first.add(declared.name, declared) {
+        match self.more.add(declared.name, declared) {
             Ok(()) => Ok(()),
             Err(error) => {
                 self.list.pop();

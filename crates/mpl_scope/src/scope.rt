@@ -18,10 +18,9 @@ use crate::kinds::Class;
 use crate::members::Member;
 use crate::names::{Declared, Names};
 use crate::outline::{Function, Meant, Outline};
-use crate::shapes::{Shape, shape_behind_dot, shape_of};
+use crate::shapes::Shape;
 use crate::types::{ValueType, is_same};
 use mpl_ast::class::ResultType;
-use mpl_ast::expression::Target;
 use mpl_ast::statement::TypeName;
 
 /// A body, or a guard.
@@ -97,26 +96,6 @@ pub fn plain_function<'a>(scope: &Scope<'a>, name: &'a [u8]) -> Option<Function<
         None
     } else {
         scope.outline.function(name)
-    }
-}
-
-// ---- places
-
-pub fn variable_shape<'a>(scope: &Scope<'a>, name: &'a [u8]) -> Option<Shape<'a>>
-    ensures { seen_shapes result ≡ typing.variable_shape (seen_scope scope.now) name.now }
-{
-    shape_of(scope.outline, variable(scope, name))
-}
-
-pub fn target_shape<'a>(scope: &Scope<'a>, target: &'a Target) -> Option<Shape<'a>>
-    ensures { seen_shapes result ≡ typing.target_shape (seen_scope scope.now) target.now }
-{
-    match target {
-        Target::Variable(_, variable) => variable_shape(scope, variable.text.as_slice()),
-        Target::Field(_, variable, field) => {
-            let shape = variable_shape(scope, variable.text.as_slice());
-            shape_behind_dot(scope.outline, field.text.as_slice(), shape)
-        }
     }
 }
 

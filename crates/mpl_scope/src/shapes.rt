@@ -106,46 +106,49 @@ pub fn shape_of<'a>(outline: &'a Outline<'a>, declared: Option<Declared<'a>>) ->
     }
 }
 
-/// The first field of a name, of a struct that is named.
-pub fn field_of<'a>(outline: &'a Outline<'a>, name: &'a [u8], field: &'a [u8]) -> Option<Shape<'a>>
-    ensures { seen_shapes result ≡ typing.shape_of_field outline.now field.now (types.meant_by name.now outline.now) }
-{
-    match outline.named(name) {
-        Meant::Struct(found) => shape_of(outline, found.field(field)),
-        Meant::Int | Meant::Bool | Meant::Class(_) | Meant::Nothing => None,
-    }
+/// What is behind the dot of a field, and whether the field is there.
+#[derive(Clone, Copy)]
+pub struct Behind<'a> {
+    pub shape: Option<Shape<'a>>,
+    pub is_there: bool,
 }
 
-/// What is behind the dot of a field.
-pub fn shape_behind_dot<'a>(
-    outline: &'a Outline<'a>,
-    field: &'a [u8],
-    shape: Option<Shape<'a>>,
-) -> Option<Shape<'a>>
-    ensures { seen_shapes result ≡ typing.shape_behind_dot outline.now field.now (seen_shapes shape.entry) }
+fn field_of<'a>(outline: &'a Outline<'a>, field: &'a [u8], meant: Meant<'a>) -> Behind<'a>
+    ensures shape { seen_shapes result.shape ≡ typing.shape_of_field outline.now field.now (seen_meant meant.entry) }
+    ensures there { result.is_there ≡ names.meant_has_field field.now (seen_meant meant.entry) }
 {
-    match shape {
-        Some(Shape::OneValue(ValueType::Struct(name))) => field_of(outline, name, field),
-        _ => None,
+    match meant {
+        Meant::Struct(found) => {
+            let declared = found.field(field);
+            Behind {
+                shape: shape_of(outline, declared),
+                is_there: declared.is_some(),
+            }
+        }
+        Meant::Int | Meant::Bool | Meant::Class(_) | Meant::Nothing => Behind {
+            shape: None,
+            is_there: true,
+        },
     }
 }
 
 /// Nothing is asked of a field of what is no struct.
-pub fn has_field<'a>(outline: &'a Outline<'a>, field: &'a [u8], shape: Option<Shape<'a>>) -> bool
-    ensures { result ≡ names.has_field outline.now field.now (seen_shapes shape.entry) }
+pub fn behind_dot<'a>(
+    outline: &'a Outline<'a>,
+    field: &'a [u8],
+    shape: Option<Shape<'a>>,
+) -> Behind<'a>
+    ensures shape { seen_shapes result.shape ≡ typing.shape_behind_dot outline.now field.now (seen_shapes shape.entry) }
+    ensures there { result.is_there ≡ names.has_field outline.now field.now (seen_shapes shape.entry) }
 {
     match shape {
-        Some(Shape::OneValue(ValueType::Struct(name))) => struct_has_field(outline, name, field),
-        _ => true,
-    }
-}
-
-fn struct_has_field<'a>(outline: &'a Outline<'a>, name: &'a [u8], field: &'a [u8]) -> bool
-    ensures { result ≡ names.meant_has_field field.now (types.meant_by name.now outline.now) }
-{
-    match outline.named(name) {
-        Meant::Struct(found) => found.field(field).is_some(),
-        Meant::Int | Meant::Bool | Meant::Class(_) | Meant::Nothing => true,
+        Some(Shape::OneValue(ValueType::Struct(name))) => {
+            field_of(outline, field, outline.named(name))
+        }
+        _ => Behind {
+            shape: None,
+            is_there: true,
+        },
     }
 }
 

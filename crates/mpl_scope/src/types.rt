@@ -2,7 +2,7 @@
 
 ghost use Rattle.std.specs.Prelude.{◌≡◌};
 ghost use Rattle.std.specs.Str.{bytes_eq};
-ghost use Rattle.mpl_mean.specs.TypeRules.Expr.{binary_operation, unary_operation};
+ghost use Rattle.mpl_mean.specs.TypeRules.Operations.{unary_operation};
 ghost use Rattle.mpl_mean.specs.TypeRules.ExpressionRules as rules;
 ghost use Rattle.mpl_mean.specs.TypeRules.Types as types;
 ghost use Rattle.mpl_mean.specs.TypeRules.Typing as typing;

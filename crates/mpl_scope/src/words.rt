@@ -2,7 +2,7 @@
 
 ghost use Rattle.std.specs.Prelude.{◌≡◌, ◌+◌, ◌≤◌, map, option_map};
 ghost use Rattle.mpl_mean.specs.Meaning.Layout as layout;
-ghost use Rattle.mpl_mean.specs.TypeRules.Stmt.{if_any, in_turn, locals, new_local, starts, stmt_of};
+ghost use Rattle.mpl_mean.specs.Plain.Stmt.{if_any, in_turn, locals, new_local, starts, stmt_of};
 ghost use Rattle.mpl_mean.specs.TypeRules.StatementNodes.{declared_local};
 ghost use Rattle.mpl_mean.specs.TypeRules.Types as types;
 ghost use Rattle.mpl_scope.specs.SeenDeclared.{seen_declared};

@@ -6,7 +6,7 @@ use Rattle.mpl_ast.specs.declared.class.Formal.{Formal}
 use Rattle.mpl_ast.specs.declared.program.Declaration.{Declaration}
 use Rattle.mpl_mean.specs.Meaning.Layout.{Function, Member}
 use Rattle.mpl_mean.specs.TypeRules.CallRules.{function_takes, member_takes}
-use Rattle.mpl_mean.specs.TypeRules.Expr.{Expr, listed}
+use Rattle.mpl_mean.specs.Plain.Expr.{Expr, listed}
 use Rattle.mpl_mean.specs.TypeRules.Rules.{Failure}
 use Rattle.mpl_mean.specs.TypeRules.Scopes.{Environment}
 use Rattle.mpl_mean.specs.TypeRules.Types.{ValueType, agree, meant, value_type, AsFormal}

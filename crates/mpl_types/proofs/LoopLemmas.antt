@@ -8,7 +8,7 @@ use Rattle.mpl_ast.specs.declared.program.Declaration.{Declaration}
 use Rattle.mpl_ast.specs.declared.statement.TypeName.{TypeName}
 use Rattle.mpl_mean.specs.Limits.{greatest_priority, most_entries, most_formals}
 use Rattle.mpl_mean.specs.Meaning.Layout.{natural}
-use Rattle.mpl_mean.specs.TypeRules.Expr.{Expr, begins}
+use Rattle.mpl_mean.specs.Plain.Expr.{Expr, begins}
 use Rattle.mpl_mean.specs.TypeRules.ExpressionRules.{can_be_printed}
 use Rattle.mpl_mean.specs.TypeRules.NameRules.{class_has_member}
 use Rattle.mpl_mean.specs.TypeRules.Scopes.{Environment, Surrounding}

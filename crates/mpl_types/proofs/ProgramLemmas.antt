@@ -8,8 +8,8 @@ use Rattle.mpl_ast.specs.declared.expression.Target.TheVariants as target
 use Rattle.mpl_ast.specs.declared.program.Program.{Program}
 use Rattle.mpl_mean.specs.Limits.{most_words_of_variables}
 use Rattle.mpl_mean.specs.TypeRules.ClassRules.{may_stand_in_guard}
-use Rattle.mpl_mean.specs.TypeRules.Expr.{Expr, Exprs, begins}
-use Rattle.mpl_mean.specs.TypeRules.Expr as expr
+use Rattle.mpl_mean.specs.Plain.Expr.{Expr, Exprs, begins}
+use Rattle.mpl_mean.specs.Plain.Expr as expr
 use Rattle.mpl_mean.specs.TypeRules.Nodes.{Located, expr_nodes, nodes_of_each, target_nodes}
 use Rattle.mpl_mean.specs.TypeRules.ProgramNodes.{Inner, Inside, OfGuard, OfRoutine, environments, inner_nodes, inners, insides, nodes, nodes_inside, outline_nodes}
 use Rattle.mpl_mean.specs.TypeRules.Rules.{Failure, is_empty, is_typed, least, least_failure, failures}
@@ -39,17 +39,17 @@ target_may environment (target.Field at variable field) = refl
 
 mutual
   guard_fits : (environment : Environment) (e : Expr) → fits_guard e ≡ list_all (λ (p : Located). may_stand_in_guard p.node) (expr_nodes environment e)
-  guard_fits environment (expr.Number at) = refl
-  guard_fits environment (expr.Truth at) = refl
+  guard_fits environment (expr.Number at value) = refl
+  guard_fits environment (expr.Truth at value) = refl
   guard_fits environment (expr.Own at) = refl
   guard_fits environment (expr.Input at) = refl
   guard_fits environment (expr.Whole at target) = target_may environment target
-  guard_fits environment (expr.Element at target index) =
+  guard_fits environment (expr.Element at line target index) =
       all_may (target_nodes environment target) (expr_nodes environment index) true (fits_guard index) (target_may environment target) (guard_fits environment index)
   guard_fits environment (expr.PlainCall at function arguments) = refl
   guard_fits environment (expr.Parenthesized at inner) = guard_fits environment inner
-  guard_fits environment (expr.Unary at operation operand) = guard_fits environment operand
-  guard_fits environment (expr.Binary at operation left right) =
+  guard_fits environment (expr.Unary at line operator operand) = guard_fits environment operand
+  guard_fits environment (expr.Binary at line operator left right) =
       all_may (expr_nodes environment left) (expr_nodes environment right) (fits_guard left) (fits_guard right) (guard_fits environment left) (guard_fits environment right)
   guard_fits environment (expr.CallOnOwn at member arguments) = refl
   guard_fits environment (expr.CallOnTarget at target member arguments) =

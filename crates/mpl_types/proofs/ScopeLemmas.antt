@@ -2,11 +2,11 @@
 use Rattle.std.proofs.Common.{◌≡◌, Option, Some, None, refl, sym, ap, ap₂, ◌∙◌}
 use Rattle.std.specs.Prelude.{option_map}
 use Rattle.mpl_ast.specs.declared.flow.Assignment.{Assignment}
-use Rattle.mpl_mean.specs.TypeRules.Expr.{Expr}
+use Rattle.mpl_mean.specs.Plain.Expr.{Expr}
 use Rattle.mpl_mean.specs.TypeRules.Rules.{Failure}
 use Rattle.mpl_mean.specs.TypeRules.Scopes.{Environment, in_block}
 use Rattle.mpl_mean.specs.TypeRules.StatementNodes.{stmts_walk}
-use Rattle.mpl_mean.specs.TypeRules.Stmt.{Loops, Stmt, Stmts, assigns, if_any}
+use Rattle.mpl_mean.specs.Plain.Stmt.{Loops, Stmt, Stmts, assigns, if_any}
 use Rattle.mpl_scope.specs.Locals.{outer}
 use Rattle.mpl_types.specs.Internal.Least.{earlier}
 use Rattle.mpl_types.specs.Internal.Statements.{after, stmt_least, test_least}

@@ -7,8 +7,8 @@ use Rattle.mpl_ast.specs.declared.class.ResultType.TheVariants.{Typed, Void}
 use Rattle.mpl_ast.specs.declared.statement.Dimension.{Dimension}
 use Rattle.mpl_ast.specs.declared.statement.TypeName.{TypeName}
 use Rattle.mpl_mean.specs.TypeRules.CallRules.{create_may_stand, is_object}
-use Rattle.mpl_mean.specs.TypeRules.Expr.{Expr, Exprs, begins}
-use Rattle.mpl_mean.specs.TypeRules.Expr as expr
+use Rattle.mpl_mean.specs.Plain.Expr.{Expr, Exprs, begins}
+use Rattle.mpl_mean.specs.Plain.Expr as expr
 use Rattle.mpl_mean.specs.TypeRules.ExpressionRules.{can_be_printed, initialiser_agrees, is_no_regular}
 use Rattle.mpl_mean.specs.TypeRules.Nodes.{Located, place, expr_nodes, nodes_of_each, statement_call_nodes, target_nodes, receiver_nodes, call_nodes}
 use Rattle.mpl_mean.specs.TypeRules.Nodes as node
@@ -17,8 +17,8 @@ use Rattle.mpl_ast.specs.declared.expression.Target.TheVariants as target
 use Rattle.mpl_mean.specs.TypeRules.Scopes.{Body, Environment, InFunction, InGuard, InMain, InMember, NoBody, behind, in_block, is_in_main, is_in_member, is_persistent, names_beside, with_last}
 use Rattle.mpl_mean.specs.TypeRules.StatementNodes.{declared_local, dimension_nodes, exprs_if_any, is_bare, local_of, local_walk, locals_among, locals_walk, print_walk, stmt_walk, stmts_walk, type_nodes}
 use Rattle.mpl_mean.specs.TypeRules.StatementRules.{can_give, can_return}
-use Rattle.mpl_mean.specs.TypeRules.Stmt.{NewLocal, Stmt, Stmts}
-use Rattle.mpl_mean.specs.TypeRules.Stmt as stmt
+use Rattle.mpl_mean.specs.Plain.Stmt.{NewLocal, Stmt, Stmts}
+use Rattle.mpl_mean.specs.Plain.Stmt as stmt
 use Rattle.mpl_mean.specs.TypeRules.Types.{AsLocal, Declared, OfBool, agree, shape_of}
 use Rattle.mpl_mean.specs.TypeRules.Typing.{target_shape, type_of}
 use Rattle.mpl_types.specs.Internal.Least.{noted, least_of}
@@ -112,13 +112,16 @@ mutual
   stmt_is (stmt.Locals type locals) environment =
       joined (type_nodes AsLocal (list_all is_bare locals) type environment) (locals_walk type locals environment).nodes _ _ refl (locals_is type locals environment)
   stmt_is (stmt.Assigns at target value) environment =
-      ap (noted at 17 (agree (type_of environment target) (type_of environment value)))
+      ap (noted at.span.from 17 (agree (type_of environment target) (type_of environment value)))
       (joined (expr_nodes environment target) (expr_nodes environment value) _ _ (expr_is environment target) (expr_is environment value))
   stmt_is (stmt.Calls call) environment = statement_call_is environment call
   stmt_is (stmt.Creates at target) environment =
-      ap (λ rest. noted at 15 (is_no_regular (target_shape environment target)) (noted at 19 (is_object (target_shape environment target))
-      (noted at 21 (create_may_stand environment.body (is_persistent environment.class)) rest)))
+      ap (λ rest. noted at.span.from 15 (is_no_regular (target_shape environment target)) (noted at.span.from 19 (is_object (target_shape environment target))
+      (noted at.span.from 21 (create_may_stand environment.body (is_persistent environment.class)) rest)))
       (target_is environment target)
+  stmt_is (stmt.When test then_part) environment =
+      joined (place (begins test) environment (node.ATest test) ∷ expr_nodes environment test) (stmt_walk then_part (in_block environment)).nodes _ _
+      (test_is test environment) (stmt_is then_part (in_block environment))
   stmt_is (stmt.Branches test then_part else_part) environment =
       joined (place (begins test) environment (node.ATest test) ∷ expr_nodes environment test)
       ((stmt_walk then_part (in_block environment)).nodes ++ (stmt_walk else_part (in_block environment)).nodes) _ _ (test_is test environment)
@@ -135,9 +138,9 @@ mutual
       (joined (place (begins test) begun (node.ATest test) ∷ expr_nodes begun test) ((stmt_walk step begun).nodes ++ (stmt_walk body (in_block (after step begun))).nodes) _ _
       (test_is test begun)
       (joined (stmt_walk step begun).nodes (stmt_walk body (in_block (after step begun))).nodes _ _ (stmt_is step begun) (stmt_is body (in_block (after step begun)))))
-  stmt_is (stmt.Prints at arguments) environment = ap (noted at 23 (is_in_main environment.body)) (print_is arguments environment)
-  stmt_is (stmt.Gives at value) environment = ap₂ (noted at 24) (gives_is environment environment.body value) (expr_is environment value)
-  stmt_is (stmt.Returns at value) environment = return_is at environment value
+  stmt_is (stmt.Prints at arguments) environment = ap (noted at.span.from 23 (is_in_main environment.body)) (print_is arguments environment)
+  stmt_is (stmt.Gives at value) environment = ap₂ (noted at.span.from 24) (gives_is environment environment.body value) (expr_is environment value)
+  stmt_is (stmt.Returns at value) environment = return_is at.span.from environment value
 
   pub stmts_is : (ss : Stmts) (environment : Environment) → stmts_least ss environment ≡ least_of (stmts_walk ss environment).nodes
   stmts_is stmt.NoStmt environment = refl
@@ -165,6 +168,7 @@ stmt_outer (stmt.Locals type locals) environment = outer_locals type locals envi
 stmt_outer (stmt.Assigns at target value) environment = refl
 stmt_outer (stmt.Calls call) environment = refl
 stmt_outer (stmt.Creates at target) environment = refl
+stmt_outer (stmt.When test then_part) environment = refl
 stmt_outer (stmt.Branches test then_part else_part) environment = refl
 stmt_outer (stmt.Repeats test body) environment = refl
 stmt_outer (stmt.Loops start test step body) environment = refl
@@ -198,17 +202,17 @@ no_receiver_local at environment (Some t) = no_target_local environment t
 
 mutual
   no_local : (environment : Environment) (e : Expr) → [] ≡ locals_among (expr_nodes environment e)
-  no_local environment (expr.Number at) = refl
-  no_local environment (expr.Truth at) = refl
+  no_local environment (expr.Number at value) = refl
+  no_local environment (expr.Truth at value) = refl
   no_local environment (expr.Own at) = refl
   no_local environment (expr.Input at) = refl
   no_local environment (expr.Whole at target) = no_target_local environment target
-  no_local environment (expr.Element at target index) =
+  no_local environment (expr.Element at line target index) =
       both_locals (target_nodes environment target) (expr_nodes environment index) [] [] (no_target_local environment target) (no_local environment index)
   no_local environment (expr.PlainCall at function arguments) = no_locals environment arguments
   no_local environment (expr.Parenthesized at inner) = no_local environment inner
-  no_local environment (expr.Unary at operation operand) = no_local environment operand
-  no_local environment (expr.Binary at operation left right) =
+  no_local environment (expr.Unary at line operator operand) = no_local environment operand
+  no_local environment (expr.Binary at line operator left right) =
       both_locals (expr_nodes environment left) (expr_nodes environment right) [] [] (no_local environment left) (no_local environment right)
   no_local environment (expr.CallOnOwn at member arguments) = no_locals environment arguments
   no_local environment (expr.CallOnTarget at target member arguments) =
@@ -223,16 +227,16 @@ no_call_local : (environment : Environment) (e : Expr) → [] ≡ locals_among (
 no_call_local environment (expr.CallOnOwn at member arguments) = no_locals environment arguments
 no_call_local environment (expr.CallOnTarget at target member arguments) =
     both_locals (target_nodes environment target) (nodes_of_each environment arguments) [] [] (no_target_local environment target) (no_locals environment arguments)
-no_call_local environment (expr.Number at) = no_local environment (expr.Number at)
-no_call_local environment (expr.Truth at) = no_local environment (expr.Truth at)
+no_call_local environment (expr.Number at value) = no_local environment (expr.Number at value)
+no_call_local environment (expr.Truth at value) = no_local environment (expr.Truth at value)
 no_call_local environment (expr.Own at) = no_local environment (expr.Own at)
 no_call_local environment (expr.Input at) = no_local environment (expr.Input at)
 no_call_local environment (expr.Whole at target) = no_local environment (expr.Whole at target)
-no_call_local environment (expr.Element at target index) = no_local environment (expr.Element at target index)
+no_call_local environment (expr.Element at line target index) = no_local environment (expr.Element at line target index)
 no_call_local environment (expr.PlainCall at function arguments) = no_local environment (expr.PlainCall at function arguments)
 no_call_local environment (expr.Parenthesized at inner) = no_local environment (expr.Parenthesized at inner)
-no_call_local environment (expr.Unary at operation operand) = no_local environment (expr.Unary at operation operand)
-no_call_local environment (expr.Binary at operation left right) = no_local environment (expr.Binary at operation left right)
+no_call_local environment (expr.Unary at line operator operand) = no_local environment (expr.Unary at line operator operand)
+no_call_local environment (expr.Binary at line operator left right) = no_local environment (expr.Binary at line operator left right)
 
 no_if_any_local : (environment : Environment) (value : Option Expr) → [] ≡ locals_among (exprs_if_any value environment).nodes
 no_if_any_local environment None = refl
@@ -270,6 +274,8 @@ mutual
       both_locals (expr_nodes environment target) (expr_nodes environment value) [] [] (no_local environment target) (no_local environment value)
   stmt_locals_is (stmt.Calls call) environment = no_call_local environment call
   stmt_locals_is (stmt.Creates at target) environment = no_target_local environment target
+  stmt_locals_is (stmt.When test then_part) environment =
+      both_locals (expr_nodes environment test) (stmt_walk then_part (in_block environment)).nodes [] _ (no_local environment test) (stmt_locals_is then_part (in_block environment))
   stmt_locals_is (stmt.Branches test then_part else_part) environment =
       both_locals (expr_nodes environment test) ((stmt_walk then_part (in_block environment)).nodes ++ (stmt_walk else_part (in_block environment)).nodes) [] _ (no_local environment test)
       (both_locals (stmt_walk then_part (in_block environment)).nodes (stmt_walk else_part (in_block environment)).nodes _ _

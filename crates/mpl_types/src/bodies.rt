@@ -2,12 +2,12 @@
 
 ghost use Rattle.std.specs.Prelude.{◌≡◌, [], flat_map, IfOk};
 ghost use Rattle.mpl_ast.specs.declared.class.Entry.{Entry};
-ghost use Rattle.mpl_mean.specs.TypeRules.Expr.{expr_of};
+ghost use Rattle.mpl_mean.specs.Plain.Expr.{expr_of};
 ghost use Rattle.mpl_mean.specs.TypeRules.ProgramNodes as nodes;
 ghost use Rattle.mpl_mean.specs.TypeRules.Scopes as scopes;
 ghost use Rattle.mpl_mean.specs.TypeRules.Types as types;
 ghost use Rattle.mpl_mean.specs.TypeRules.Typing.{member_of};
-ghost use Rattle.mpl_mean.specs.TypeRules.Stmt.{stmts_of};
+ghost use Rattle.mpl_mean.specs.Plain.Stmt.{stmts_of};
 ghost use Rattle.mpl_types.specs.Internal.Programs.{guard_least, insides_least, routine_least};
 ghost use Rattle.mpl_types.specs.Internal.Seen.{failure_of};
 ghost use Rattle.mpl_scope.specs.SeenScope.{seen_body, seen_if_any, seen_scope};

@@ -5,7 +5,7 @@ ghost use Rattle.std.specs.Option.{option_and_then};
 ghost use Rattle.mpl_mean.specs.TypeRules.CallRules as rules;
 ghost use Rattle.mpl_mean.specs.TypeRules.ClassRules as classes;
 ghost use Rattle.mpl_mean.specs.TypeRules.Types as typing;
-ghost use Rattle.mpl_mean.specs.TypeRules.Expr.{begins, expr_of_call, expr_of_flow, listed};
+ghost use Rattle.mpl_mean.specs.Plain.Expr.{begins, expr_of_call, expr_of_flow, listed};
 ghost use Rattle.mpl_mean.specs.TypeRules.NameRules.{has_member};
 ghost use Rattle.mpl_mean.specs.TypeRules.Scopes.{is_persistent};
 ghost use Rattle.mpl_mean.specs.TypeRules.Typing.{arguments_agree, formal_types, items_called, member_called, member_of, receiver_shape, type_of, type_of_call, types_of};
@@ -27,9 +27,7 @@ use mpl_ast::expression::Target;
 use mpl_ast::flow::{Call, Flow};
 use mpl_scope::members::Member;
 use mpl_scope::names::Role;
-use mpl_scope::scope::{
-    Body, Scope, is_persistent, member_of_shape, own_shape, shape_has_member, target_shape,
-};
+use mpl_scope::scope::{Body, Scope, is_persistent, member_of_shape, own_shape, shape_has_member};
 use mpl_scope::shapes::{Shape, can_be_called, is_object, value_type};
 use mpl_scope::types::ValueType;
 
@@ -128,8 +126,8 @@ fn target_callee<'a>(at: u32, scope: &Scope<'a>, target: &'a Target, member: &'a
     ensures can { result.can_be_called ≡ rules.can_be_called (receiver_shape (seen_scope scope.now) (Some target.now)) }
     ensures failure { failure_of result.failure ≡ callee_least at (seen_scope scope.now) (Some target.now) member.now }
 {
-    let shape = target_shape(scope, target);
-    callee_of(at, scope, shape, member, check_target(scope, target))
+    let target = check_target(scope, target);
+    callee_of(at, scope, target.shape, member, target.failure)
 }
 
 /// A member of what has this shape.

@@ -2,7 +2,7 @@
 
 ghost use Rattle.std.specs.Prelude.{◌≡◌, ◌&&◌, ◌||◌, false, is_none, is_some, map, option_map};
 ghost use Rattle.mpl_mean.specs.FirstForms.ExpressionLevels.{expr_of_conjunction, expr_of_equality, expr_of_primary, expr_of_relation, expr_of_sum, expr_of_term, expr_of_unary};
-ghost use Rattle.mpl_mean.specs.TypeRules.Expr.{Whole, begins, expr_of, expr_of_place, listed};
+ghost use Rattle.mpl_mean.specs.Plain.Expr.{Whole, begins, expr_of, expr_of_place, listed};
 ghost use Rattle.mpl_mean.specs.TypeRules.ExpressionRules as rules;
 ghost use Rattle.mpl_mean.specs.TypeRules.Typing.{arguments_agree, formal_types, target_shape, type_of, type_of_binary, type_of_unary, type_of_element, type_of_plain_call, types_of};
 ghost use Rattle.mpl_types.specs.Internal.Expressions.{expr_least, exprs_least, fits_guard, formals_of_function, target_least};
@@ -15,14 +15,14 @@ ghost use Rattle.mpl_scope.specs.SeenTypes.{seen_operation, seen_types};
 use crate::arguments::{Checked, Matched, all_agree, no_argument, one_more};
 use crate::failure::{earlier, noted};
 use crate::places::{check_own, check_target};
-use mpl_ast::Name;
 use mpl_ast::class::Formal;
 use mpl_ast::expression::{
     Conjunction, Equality, Expression, Place, Primary, Relation, Sum, Target, Term, Unary,
 };
+use mpl_ast::{At, Name};
 use mpl_scope::names::Role;
 use mpl_scope::outline::Function;
-use mpl_scope::scope::{Scope, is_in_main, own_type, plain_function, target_shape};
+use mpl_scope::scope::{Scope, is_in_main, own_type, plain_function};
 use mpl_scope::shapes::{
     can_be_indexed, is_no_regular, is_one_value, type_of_element, type_of_whole, value_type,
 };
@@ -312,7 +312,7 @@ pub fn check_place<'a>(scope: &Scope<'a>, node: &'a Place) -> Checked<'a>
     ensures failure { failure_of result.failure ≡ expr_least (seen_scope scope.now) (expr_of_place node.now) }
 {
     match node {
-        Place::Whole(at, target) => whole(at.span.from, scope, target),
+        Place::Whole(at, target) => whole(*at, scope, target),
         Place::Element(at, _, target, index) => {
             let index = check_expression(scope, index.get());
             element(at.span.from, scope, target, index)
@@ -320,18 +320,18 @@ pub fn check_place<'a>(scope: &Scope<'a>, node: &'a Place) -> Checked<'a>
     }
 }
 
-fn whole<'a>(at: u32, scope: &Scope<'a>, target: &'a Target) -> Checked<'a>
+fn whole<'a>(at: At, scope: &Scope<'a>, target: &'a Target) -> Checked<'a>
     ensures at { result.at ≡ begins (Whole at target.now) }
     ensures fits { result.fits_guard ≡ fits_guard (Whole at target.now) }
     ensures value { seen_types result.value ≡ type_of (seen_scope scope.now) (Whole at target.now) }
     ensures failure { failure_of result.failure ≡ expr_least (seen_scope scope.now) (Whole at target.now) }
 {
-    let shape = target_shape(scope, target);
+    let target = check_target(scope, target);
     Checked {
-        at,
-        value: type_of_whole(shape),
+        at: at.span.from,
+        value: type_of_whole(target.shape),
         fits_guard: true,
-        failure: noted(at, 15, is_one_value(shape), check_target(scope, target)),
+        failure: noted(at.span.from, 15, is_one_value(target.shape), target.failure),
     }
 }
 
@@ -343,8 +343,9 @@ fn element<'a>(at: u32, scope: &Scope<'a>, target: &'a Target, index: Checked<'a
         noted at 14 (rules.can_be_indexed (target_shape (seen_scope scope.now) target.now) (seen_types index.entry.value))
         (noted at 15 (rules.is_no_regular (target_shape (seen_scope scope.now) target.now)) (earlier (target_least (seen_scope scope.now) target.now) (failure_of index.entry.failure))) }
 {
-    let shape = target_shape(scope, target);
-    let of_parts = earlier(check_target(scope, target), index.failure);
+    let target = check_target(scope, target);
+    let shape = target.shape;
+    let of_parts = earlier(target.failure, index.failure);
     let of_place = noted(at, 15, is_no_regular(shape), of_parts);
     Checked {
         at,

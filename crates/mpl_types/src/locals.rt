@@ -3,10 +3,10 @@
 ghost use Rattle.std.specs.Prelude.{◌≡◌, Some, map, not, OnOk, IfOk};
 ghost use Rattle.std.specs.List.{list_all, list_any};
 ghost use Rattle.std.specs.Str.{bytes_eq};
-ghost use Rattle.mpl_mean.specs.TypeRules.Expr.{expr_of_flow};
+ghost use Rattle.mpl_mean.specs.Plain.Expr.{expr_of_flow};
 ghost use Rattle.mpl_mean.specs.TypeRules.Scopes as scopes;
 ghost use Rattle.mpl_mean.specs.TypeRules.StatementNodes as nodes;
-ghost use Rattle.mpl_mean.specs.TypeRules.Stmt.{locals, new_local};
+ghost use Rattle.mpl_mean.specs.Plain.Stmt.{locals, new_local};
 ghost use Rattle.mpl_mean.specs.TypeRules.Types.{AsLocal};
 ghost use Rattle.mpl_scope.specs.SeenDeclared.{seen_declared};
 ghost use Rattle.mpl_scope.specs.SeenScope.{seen_scope};

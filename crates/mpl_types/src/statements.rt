@@ -2,10 +2,10 @@
 
 ghost use Rattle.std.specs.Prelude.{◌≡◌, map, option_map, OnOk, IfOk};
 ghost use Rattle.mpl_mean.specs.TypeRules.CallRules as calls;
-ghost use Rattle.mpl_mean.specs.TypeRules.Expr.{expr_of, expr_of_flow};
+ghost use Rattle.mpl_mean.specs.Plain.Expr.{expr_of, expr_of_flow};
 ghost use Rattle.mpl_mean.specs.TypeRules.Scopes as scopes;
 ghost use Rattle.mpl_mean.specs.TypeRules.StatementNodes as nodes;
-ghost use Rattle.mpl_mean.specs.TypeRules.Stmt.{Creates, Gives, Loops, Returns, assigns, if_any, in_turn, starts, stmt_of};
+ghost use Rattle.mpl_mean.specs.Plain.Stmt.{Creates, Gives, Loops, Returns, assigns, if_any, in_turn, starts, stmt_of};
 ghost use Rattle.mpl_types.specs.Internal.Seen.{failure_of};
 ghost use Rattle.mpl_scope.specs.SeenScope.{seen_body, seen_scope};
 ghost use Rattle.mpl_scope.specs.SeenTypes.{seen_types};
@@ -16,13 +16,14 @@ use crate::expressions::{check_expression, check_place};
 use crate::failure::{Failure, earlier, noted};
 use crate::locals::check_local;
 use crate::places::check_target;
+use mpl_ast::At;
 use mpl_ast::class::ResultType;
 use mpl_ast::expression::{Expression, Target};
 use mpl_ast::flow::{Assignment, Flow};
 use mpl_ast::statement::{ForHead, ForStart, Statement, TypeName};
 use mpl_scope::blocks::{enter, leave};
 use mpl_scope::names::Role;
-use mpl_scope::scope::{Body, Scope, is_in_main, is_in_member, is_persistent, target_shape};
+use mpl_scope::scope::{Body, Scope, is_in_main, is_in_member, is_persistent};
 use mpl_scope::shapes::{is_no_regular, is_object, value_type};
 use mpl_scope::types::{ValueType, agree, can_be_printed};
 use mpl_value::NoMemory;
@@ -40,14 +41,14 @@ fn check_assignment<'a>(scope: &Scope<'a>, assignment: &'a Assignment) -> Option
     noted(assignment.at.span.from, 17, agrees, of_parts)
 }
 
-fn check_create<'a>(at: u32, scope: &Scope<'a>, target: &'a Target) -> Option<Failure>
+fn check_create<'a>(at: At, scope: &Scope<'a>, target: &'a Target) -> Option<Failure>
     ensures { failure_of result ≡ stmt_least (Creates at target.now) (seen_scope scope.now) }
 {
-    let shape = target_shape(scope, target);
+    let target = check_target(scope, target);
     let may_stand = create_may_stand(scope.body, is_persistent(scope.class));
-    let of_place = noted(at, 21, may_stand, check_target(scope, target));
-    let of_class = noted(at, 19, is_object(shape), of_place);
-    noted(at, 15, is_no_regular(shape), of_class)
+    let of_place = noted(at.span.from, 21, may_stand, target.failure);
+    let of_class = noted(at.span.from, 19, is_object(target.shape), of_place);
+    noted(at.span.from, 15, is_no_regular(target.shape), of_class)
 }
 
 fn create_may_stand(body: Body, is_persistent: bool) -> bool
@@ -81,11 +82,16 @@ fn check_printed<'a>(scope: &Scope<'a>, arguments: &'a [Expression]) -> Option<F
     found
 }
 
-fn check_rtf<'a>(at: u32, scope: &Scope<'a>, value: &'a Flow) -> Option<Failure>
+fn check_rtf<'a>(at: At, scope: &Scope<'a>, value: &'a Flow) -> Option<Failure>
     ensures { failure_of result ≡ stmt_least (Gives at (expr_of_flow value.now)) (seen_scope scope.now) }
 {
     let value = check_flow(scope, value);
-    noted(at, 24, can_give(scope, value.value), value.failure)
+    noted(
+        at.span.from,
+        24,
+        can_give(scope, value.value),
+        value.failure,
+    )
 }
 
 /// In a member with a value, of its type.
@@ -108,15 +114,20 @@ fn is_result<'a>(scope: &Scope<'a>, type_name: &'a TypeName, value: Option<Value
     agree(value, value_type(Role::Result, meant))
 }
 
-fn check_return<'a>(at: u32, scope: &Scope<'a>, value: &'a Option<Expression>) -> Option<Failure>
+fn check_return<'a>(at: At, scope: &Scope<'a>, value: &'a Option<Expression>) -> Option<Failure>
     ensures { failure_of result ≡ stmt_least (Returns at (option_map expr_of value.now)) (seen_scope scope.now) }
 {
     match value {
         Some(value) => {
             let value = check_expression(scope, value);
-            noted(at, 26, can_return(scope, value.value), value.failure)
+            noted(
+                at.span.from,
+                26,
+                can_return(scope, value.value),
+                value.failure,
+            )
         }
-        None => noted(at, 26, is_in_member(scope.body), None),
+        None => noted(at.span.from, 26, is_in_member(scope.body), None),
     }
 }
 
@@ -147,7 +158,7 @@ pub fn check_statement<'a>(
         Statement::Declare(_, local) => check_local(alloc, scope, local),
         Statement::Assign(_, assignment) => Ok(check_assignment(scope, assignment)),
         Statement::CallAlone(_, call) => Ok(check_call_alone(scope, call)),
-        Statement::Create(at, target) => Ok(check_create(at.span.from, scope, target)),
+        Statement::Create(at, target) => Ok(check_create(*at, scope, target)),
         Statement::If(_, test, then_part, else_part) => {
             let of_test = check_test(scope, test);
             let of_then = check_within(alloc, scope, then_part.get())?;
@@ -156,7 +167,7 @@ pub fn check_statement<'a>(
                     let of_else = check_within(alloc, scope, statement.get())?;
                     Ok(earlier(of_test, earlier(of_then, of_else)))
                 }
-                None => Ok(earlier(of_test, earlier(of_then, None))),
+                None => Ok(earlier(of_test, of_then)),
             }
         }
         Statement::While(_, test, body) => {
@@ -169,8 +180,8 @@ pub fn check_statement<'a>(
             let of_arguments = check_printed(scope, arguments.as_slice());
             Ok(noted(at.span.from, 23, is_in_main(scope.body), of_arguments))
         }
-        Statement::Rtf(at, value) => Ok(check_rtf(at.span.from, scope, value)),
-        Statement::Return(at, value) => Ok(check_return(at.span.from, scope, value)),
+        Statement::Rtf(at, value) => Ok(check_rtf(*at, scope, value)),
+        Statement::Return(at, value) => Ok(check_return(*at, scope, value)),
         Statement::Empty(_) => Ok(None),
     }
 }

@@ -3,11 +3,11 @@ use Rattle.std.specs.Prelude.{ℕ, ◌&&◌, nat_le, List, [], ◌∷◌, ◌++�
 use Rattle.mpl_ast.specs.declared.class.Formal.{Formal}
 use Rattle.mpl_ast.specs.declared.program.Program.{Program}
 use Rattle.mpl_mean.specs.Limits.{most_words_of_variables}
-use Rattle.mpl_mean.specs.TypeRules.Expr.{Expr, begins}
+use Rattle.mpl_mean.specs.Plain.Expr.{Expr, begins}
 use Rattle.mpl_mean.specs.TypeRules.ProgramNodes.{Inner, Inside, OfGuard, OfRoutine, insides}
 use Rattle.mpl_mean.specs.TypeRules.Rules.{Failure}
 use Rattle.mpl_mean.specs.TypeRules.Scopes.{Environment}
-use Rattle.mpl_mean.specs.TypeRules.Stmt.{Stmts}
+use Rattle.mpl_mean.specs.Plain.Stmt.{Stmts}
 use Rattle.mpl_mean.specs.TypeRules.Types.{OfBool, agree, declared_formals, words_of_variables}
 use Rattle.mpl_mean.specs.TypeRules.Typing.{type_of}
 use Rattle.mpl_types.specs.Internal.Expressions.{expr_least, fits_guard}

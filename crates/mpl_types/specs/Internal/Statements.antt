@@ -8,15 +8,15 @@ use Rattle.mpl_ast.specs.declared.statement.TypeName.{TypeName}
 use Rattle.mpl_ast.specs.declared.program.Declaration.{Declaration}
 use Rattle.mpl_mean.specs.Meaning.Layout.{natural}
 use Rattle.mpl_mean.specs.TypeRules.CallRules.{create_may_stand, is_object}
-use Rattle.mpl_mean.specs.TypeRules.Expr.{Expr, begins}
+use Rattle.mpl_mean.specs.Plain.Expr.{Expr, begins}
 use Rattle.mpl_mean.specs.TypeRules.ExpressionRules.{can_be_printed, initialiser_agrees, is_no_regular}
 use Rattle.mpl_mean.specs.TypeRules.NameRules.{is_meant}
 use Rattle.mpl_mean.specs.TypeRules.Rules.{Failure}
 use Rattle.mpl_mean.specs.TypeRules.Scopes.{Body, Environment, InFunction, InMain, InMember, behind, in_block, is_in_main, is_in_member, is_persistent, names_beside}
 use Rattle.mpl_mean.specs.TypeRules.SizeRules.{is_element, is_size, meant_may_stand}
 use Rattle.mpl_mean.specs.TypeRules.StatementNodes.{declared_local, is_bare, stmt_walk, type_at}
-use Rattle.mpl_mean.specs.TypeRules.Stmt.{NewLocal, Stmt, Stmts}
-use Rattle.mpl_mean.specs.TypeRules.Stmt as stmt
+use Rattle.mpl_mean.specs.Plain.Stmt.{NewLocal, Stmt, Stmts}
+use Rattle.mpl_mean.specs.Plain.Stmt as stmt
 use Rattle.mpl_mean.specs.TypeRules.Types.{AsLocal, AsResult, Declared, OfBool, OfInt, Role, ValueType, agree, meant, shape_of, value_type}
 use Rattle.mpl_mean.specs.TypeRules.Typing.{target_shape, type_of}
 use Rattle.mpl_types.specs.Internal.Expressions.{expr_least, statement_call_least, target_least}
@@ -88,12 +88,13 @@ abbrev mutual
   stmt_least (stmt.Locals type locals) environment =
       earlier (type_least environment.declarations AsLocal (list_all is_bare locals) type) (locals_least type locals environment)
   stmt_least (stmt.Assigns at target value) environment =
-      noted at 17 (agree (type_of environment target) (type_of environment value)) (earlier (expr_least environment target) (expr_least environment value))
+      noted at.span.from 17 (agree (type_of environment target) (type_of environment value)) (earlier (expr_least environment target) (expr_least environment value))
   stmt_least (stmt.Calls call) environment = statement_call_least environment call
   stmt_least (stmt.Creates at target) environment =
-      noted at 15 (is_no_regular (target_shape environment target))
-      (noted at 19 (is_object (target_shape environment target))
-      (noted at 21 (create_may_stand environment.body (is_persistent environment.class)) (target_least environment target)))
+      noted at.span.from 15 (is_no_regular (target_shape environment target))
+      (noted at.span.from 19 (is_object (target_shape environment target))
+      (noted at.span.from 21 (create_may_stand environment.body (is_persistent environment.class)) (target_least environment target)))
+  stmt_least (stmt.When test then_part) environment = earlier (test_least test environment) (stmt_least then_part (in_block environment))
   stmt_least (stmt.Branches test then_part else_part) environment =
       earlier (test_least test environment) (earlier (stmt_least then_part (in_block environment)) (stmt_least else_part (in_block environment)))
   stmt_least (stmt.Repeats test body) environment = earlier (test_least test environment) (stmt_least body (in_block environment))
@@ -101,9 +102,9 @@ abbrev mutual
       earlier (stmt_least start (in_block environment))
       (earlier (test_least test (after start (in_block environment)))
       (earlier (stmt_least step (after start (in_block environment))) (stmt_least body (in_block (after step (after start (in_block environment)))))))
-  stmt_least (stmt.Prints at arguments) environment = noted at 23 (is_in_main environment.body) (print_least arguments environment)
-  stmt_least (stmt.Gives at value) environment = noted at 24 (gives environment.declarations environment.body (type_of environment value)) (expr_least environment value)
-  stmt_least (stmt.Returns at value) environment = return_least at environment value
+  stmt_least (stmt.Prints at arguments) environment = noted at.span.from 23 (is_in_main environment.body) (print_least arguments environment)
+  stmt_least (stmt.Gives at value) environment = noted at.span.from 24 (gives environment.declarations environment.body (type_of environment value)) (expr_least environment value)
+  stmt_least (stmt.Returns at value) environment = return_least at.span.from environment value
 
   pub stmts_least : Stmts → Environment → Option Failure
   stmts_least stmt.NoStmt environment = None

@@ -1,5 +1,5 @@
 use Rattle.std.proofs.Common.{◌≡◌, ◌≤◌, ◌+◌, drop, map}
-use Rattle.mpl_mean.specs.TypeRules.Stmt.{in_turn, stmt_of}
+use Rattle.mpl_mean.specs.Plain.Stmt.{in_turn, stmt_of}
 use Rattle.mpl_mean.specs.TypeRules.Types.{words_of_variables}
 use Rattle.mpl_scope.specs.Locals.{stmts_locals}
 use Rattle.mpl_scope.specs.Words.{told}

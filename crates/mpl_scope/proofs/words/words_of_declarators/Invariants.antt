@@ -1,6 +1,6 @@
 use Rattle.std.proofs.Common.{◌≡◌, ◌≤◌, ◌+◌, drop, map}
 use Rattle.mpl_mean.specs.TypeRules.StatementNodes.{declared_local}
-use Rattle.mpl_mean.specs.TypeRules.Stmt.{new_local}
+use Rattle.mpl_mean.specs.Plain.Stmt.{new_local}
 use Rattle.mpl_mean.specs.TypeRules.Types.{words_of_variables}
 use Rattle.mpl_scope.specs.Words.{told}
 use Rattle.mpl_scope.proofs.words.words_of_declarators.Given as goal

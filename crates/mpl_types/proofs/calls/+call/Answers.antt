@@ -1,5 +1,5 @@
 use Rattle.std.proofs.Common.{arith, length}
-use Rattle.mpl_mean.specs.TypeRules.Expr.{expr_of_flow}
+use Rattle.mpl_mean.specs.Plain.Expr.{expr_of_flow}
 use Rattle.mpl_mean.specs.TypeRules.Typing.{formal_types}
 use Rattle.mpl_scope.specs.SeenScope.{seen_scope}
 use Rattle.mpl_types.proofs.ArgumentLemmas.{agree_at_end, as_many_types}

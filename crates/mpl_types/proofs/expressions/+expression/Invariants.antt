@@ -1,5 +1,5 @@
 use Rattle.std.proofs.Common.{◌≡◌}
-use Rattle.mpl_mean.specs.TypeRules.Expr.{expr_of}
+use Rattle.mpl_mean.specs.Plain.Expr.{expr_of}
 use Rattle.mpl_mean.specs.TypeRules.Typing.{formal_types}
 use Rattle.mpl_scope.specs.SeenScope.{seen_scope}
 use Rattle.mpl_types.proofs.ArgumentLemmas.{at_place, none_untyped}

@@ -3,7 +3,7 @@ use Rattle.std.proofs.lemmas.List.Folds.{list_all-map}
 use Rattle.std.specs.List.{list_all}
 use Rattle.mpl_ast.specs.declared.statement.Declarator.{Declarator}
 use Rattle.mpl_mean.specs.TypeRules.StatementNodes.{is_bare}
-use Rattle.mpl_mean.specs.TypeRules.Stmt.{new_local}
+use Rattle.mpl_mean.specs.Plain.Stmt.{new_local}
 use Rattle.mpl_mean.specs.TypeRules.Types.{AsLocal}
 use Rattle.mpl_scope.specs.SeenScope.{seen_scope}
 use Rattle.mpl_types.specs.Internal.Least.{earlier}

@@ -1,8 +1,8 @@
 use Rattle.std.proofs.Common.{ap, map, sym, ◌∙◌}
 use Rattle.mpl_ast.specs.declared.statement.Statement.{fold-roll-Statement, roll-Statement}
 use Rattle.mpl_ast.specs.declared.statement.Statement.TheOpen.{Statement-F}
-use Rattle.mpl_mean.specs.TypeRules.Expr.{expr_of}
-use Rattle.mpl_mean.specs.TypeRules.Stmt.{Stmt, Stmts, block_step, statement_step, stmt_of}
+use Rattle.mpl_mean.specs.Plain.Expr.{expr_of}
+use Rattle.mpl_mean.specs.Plain.Stmt.{Stmt, Stmts, block_step, statement_step, stmt_of}
 use Rattle.mpl_scope.specs.SeenScope.{seen_scope}
 use Rattle.mpl_types.specs.Internal.Statements.{after}
 use Rattle.mpl_types.proofs.StatementLemmas.{print_after}

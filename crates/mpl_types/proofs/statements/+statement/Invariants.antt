@@ -1,6 +1,6 @@
 use Rattle.std.proofs.Common.{◌≡◌, drop, map}
 use Rattle.mpl_mean.specs.TypeRules.StatementNodes.{stmts_walk}
-use Rattle.mpl_mean.specs.TypeRules.Stmt.{in_turn, stmt_of}
+use Rattle.mpl_mean.specs.Plain.Stmt.{in_turn, stmt_of}
 use Rattle.mpl_scope.specs.SeenScope.{seen_scope}
 use Rattle.mpl_types.specs.Internal.Least.{earlier}
 use Rattle.mpl_types.specs.Internal.Seen.{failure_of}

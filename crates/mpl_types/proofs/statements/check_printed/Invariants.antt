@@ -1,5 +1,5 @@
 use Rattle.std.proofs.Common.{◌≡◌, drop, map}
-use Rattle.mpl_mean.specs.TypeRules.Expr.{expr_of}
+use Rattle.mpl_mean.specs.Plain.Expr.{expr_of}
 use Rattle.mpl_scope.specs.SeenScope.{seen_scope}
 use Rattle.mpl_types.specs.Internal.Statements.{print_least}
 use Rattle.mpl_types.specs.Internal.Least.{earlier}

@@ -4,7 +4,7 @@ use Rattle.std.specs.List.{list_any}
 use Rattle.std.specs.Str.{bytes_eq}
 use Rattle.mpl_scope.specs.First.{at}
 use Rattle.mpl_scope.proofs.TableLemmas.{known_after}
-use Rattle.mpl_scope.proofs.earlier.Earlier.add.Goals as goal
+use Rattle.mpl_scope.proofs.earlier.More.add.Goals as goal
 
 pub invariant_of-self-in-Ok : goal.invariant_of-self-in-Ok
 invariant_of-self-in-Ok c = λ q.

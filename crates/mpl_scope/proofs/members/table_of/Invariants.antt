@@ -3,7 +3,7 @@ use Rattle.mpl_mean.specs.Meaning.Layout.{member_named, members_from}
 use Rattle.mpl_mean.specs.TypeRules.Typing.{member_of}
 use Rattle.mpl_scope.specs.First.{at, or_else}
 use Rattle.mpl_scope.specs.SeenMembers.{seen_member}
-use Rattle.mpl_scope.proofs.members.Members.of.Given as goal
+use Rattle.mpl_scope.proofs.members.table_of.Given as goal
 
 -- the table, and the members that are left, have the first of each name
 abbrev pub invariant-loop-item : goal.invariant-loop-item
