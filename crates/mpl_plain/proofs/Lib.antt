@@ -1,3 +1,7 @@
-pub mod ExpressionsAsTrees
-pub mod FlowsAsTrees
-pub mod StatementsAsTrees
+pub mod ExprsSame
+pub mod FlowsSame
+pub mod StmtsSame
+pub mod FittingExpressions
+pub mod FittingFlows
+pub mod FittingStatements
+pub mod FittingBodies

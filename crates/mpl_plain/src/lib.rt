@@ -1,6 +1,6 @@
-//! Expressions, flows and statements as plain data, and what they mean.
+//! What the plain trees of expressions, flows and statements mean.
 #![tactic(auto)]
 
 mod laws;
 
-pub use laws::plain_trees_mean_the_same;
+pub use laws::{calls_have_their_arguments, plain_trees_mean_the_same};

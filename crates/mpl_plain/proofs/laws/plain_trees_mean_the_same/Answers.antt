@@ -1,6 +1,6 @@
-use Rattle.mpl_plain.proofs.ExpressionsAsTrees.{name_same, value_same}
-use Rattle.mpl_plain.proofs.FlowsAsTrees.{call_same, flow_same}
-use Rattle.mpl_plain.proofs.StatementsAsTrees.{run_same, statement_same}
+use Rattle.mpl_plain.proofs.ExprsSame.{name_same, value_same}
+use Rattle.mpl_plain.proofs.FlowsSame.{call_same, flow_same}
+use Rattle.mpl_plain.proofs.StmtsSame.{run_same, statement_same}
 use Rattle.mpl_plain.proofs.laws.plain_trees_mean_the_same.Goals as goal
 
 pub returns-clause-values : goal.returns-clause-values
