@@ -1,0 +1,13 @@
+pub mod Standing
+pub mod Covering
+pub mod Agreeing
+pub mod Uses
+pub mod AgreeForms
+pub mod AgreeCalls
+pub mod AgreeAssignments
+pub mod AgreeCreations
+pub mod AgreeScopes
+pub mod AgreeStatements
+pub mod AnyBody
+pub mod AgreeBodies
+pub mod Fitting
