@@ -1,6 +1,7 @@
 -- What is known of the bodies that are called.
 use Rattle.std.proofs.Common.{◌≡◌, ◌≤◌, ℕ, suc, ◌+◌, Bool, true, false, List, [], ◌∷◌, length, map, Option, Some, None, if◌then◌else◌, ℤ, refl}
 use Rattle.std.specs.Str.{bytes_eq}
+use Rattle.mpl_mean.specs.Plain.Scopes.{regular_env}
 use Rattle.mpl_ast.specs.declared.program.Declaration.{Declaration}
 use Rattle.mpl_ast.specs.declared.program.Declaration.TheVariants as declaration
 use Rattle.mpl_value.specs.declared.body.Arg.{Arg}
@@ -10,7 +11,7 @@ use Rattle.mpl_mean.specs.Meaning.Context.{Callees}
 use Rattle.mpl_mean.specs.Meaning.Layout.{Function, Member, formals_of, function_named}
 use Rattle.mpl_mean.specs.Meaning.PlaceMeaning.{is_bool}
 use Rattle.mpl_mean.specs.Meaning.Store.{Store}
-use Rattle.mpl_body_code.specs.Codes.{number_of_function, regular_env}
+use Rattle.mpl_body_code.specs.Codes.{number_of_function}
 use Rattle.mpl_body_code.specs.Images.{IsFunctionCode, IsMemberCode}
 use Rattle.mpl_body_code.specs.Machine.{Item, Setting, item_of, words_item}
 use Rattle.mpl_body_code.specs.Steps.{begins_plain, begins_regular}

@@ -1,4 +1,4 @@
--- The code of an expression does what the expression means.
+-- The code of each form of expression does what the form means, where that of its parts does.
 use Rattle.std.proofs.Common.{◌≡◌, ◌≤◌, ℕ, suc, ◌+◌, Bool, true, false, not, List, [], ◌∷◌, ◌++◌, length, map, drop, Option, Some, None, if◌then◌else◌, ℤ, pos, Result, Ok, Err, refl, ap, sym, subst, ◌∙◌}
 use Rattle.std.specs.Prelude.{slice_get}
 use Rattle.std.proofs.lemmas.List.{length-map}
@@ -7,6 +7,7 @@ use Rattle.std.specs.Option.{option_map}
 use Rattle.mpl_ast.specs.declared.expression.Target.{Target}
 use Rattle.mpl_ast.specs.declared.expression.UnaryOperator.{UnaryOperator}
 use Rattle.mpl_ast.specs.declared.expression.UnaryOperator.TheVariants as unary
+use Rattle.mpl_ast.specs.declared.place.Name.{Name}
 use Rattle.mpl_ast.specs.declared.program.Declaration.{Declaration}
 use Rattle.mpl_value.specs.Arithmetic.{negation}
 use Rattle.mpl_value.specs.Words.{index_below}
@@ -16,18 +17,17 @@ use Rattle.mpl_value.specs.declared.known.TrapKind.{TrapKind}
 use Rattle.mpl_mean.specs.Levels as levels
 use Rattle.mpl_mean.specs.Levels.{BinaryOperator}
 use Rattle.mpl_mean.specs.Meaning.Context.{Callees, Context}
-use Rattle.mpl_mean.specs.Meaning.ExpressionMeaning.{Evaluates, called, equality_test, next_of, relation_test, sum_operation, term_operation, unary_operation, value_of_binary}
+use Rattle.mpl_mean.specs.Meaning.ExpressionMeaning.{Evaluates, call_plain, called, element_of, equality_test, next_number, next_of, relation_test, sum_operation, term_operation, unary_operation, value_of_binary, value_of_unary}
 use Rattle.mpl_mean.specs.Meaning.Layout.{Function, Member, Part, function_named}
 use Rattle.mpl_mean.specs.Meaning.PlaceMeaning.{base_of, read, tested_index, words_of_location}
 use Rattle.mpl_mean.specs.Meaning.Store.{Store, Step, ◌>>=◌, all_of, computed, force, pure}
 use Rattle.mpl_mean.specs.Meaning.Values.{Value, bool_value, int_value, is_true, word_of}
-use Rattle.mpl_plain.specs.ExpressionTrees.{ExpressionTree, ExpressionTrees, tree_value, tree_values}
-use Rattle.mpl_plain.specs.ExpressionTrees as e
-use Rattle.mpl_body_code.specs.Arity.{ExpressionFits, ExpressionsFit, FunctionTakes}
-use Rattle.mpl_body_code.specs.Codes.{Code, From, binary_code, count_of, expression_code, expressions_code, number_of_function, plain_code, read_code}
+use Rattle.mpl_plain.specs.Arity.{FunctionTakes}
+use Rattle.mpl_body_code.specs.Codes.{Code, From, binary_code, number_of_function, plain_code, read_code}
 use Rattle.mpl_body_code.specs.Images.{HasCode}
 use Rattle.mpl_body_code.specs.Machine.{Item, Next, OfValue, held}
-use Rattle.mpl_body_code.specs.Scopes.{Env, Found, Shape, Slot, base_of_slot, found_at, spot_of}
+use Rattle.mpl_mean.specs.Plain.Scopes.{Env, Found, Shape, Slot, found_at}
+use Rattle.mpl_body_code.specs.Scopes.{base_of_slot, spot_of}
 use Rattle.mpl_body_code.specs.Steps.{begins_plain, calls_plain, computes, forced, indexed, on_base, onward, operates_alone, past, performs, takes_input, top_of}
 use Rattle.mpl_body_code.specs.declared.instruction.Instruction.{Instruction}
 use Rattle.mpl_body_code.specs.declared.instruction.Instruction.TheVariants as instruction
@@ -115,10 +115,55 @@ module _ (K : Run) (ds : List Declaration) (members : List Member) (parts : List
   perform : (p : ℕ) (stack : List Item) (s : Store) (i : Instruction) → slice_get K.setting.image.code p ≡ Some i → To K scope slots (performs K.setting i (running K p stack slots s)) → X p stack s
   perform p stack s i = performing K.setting K.yield (running K p stack slots s) i
 
-  reads : (p q : ℕ) (stack : List Item) (s : Store) (t : Target) → From K.setting.image.code p (read_code (found_at env t)) q → Stands K scope slots s
-      → Comes K (V q stack) (read c t s) → X p stack s
-  reads p q stack s t from stands h =
+  abbrev CodeHere : ℕ → Code → ℕ → Type 0
+  CodeHere = From K.setting.image.code
+
+  -- the code leaves the value, wherever it stands
+  abbrev pub ValueFollows : Code → Evaluates → Type 0
+  ValueFollows code v = (p q : ℕ) (stack : List Item) (s : Store) → CodeHere p code q → Stands K scope slots s → Comes K (V q stack) (v c s) → X p stack s
+
+  -- so many values are on top at a place
+  abbrev pub ValuesAt : ℕ → List Item → ℕ → List Value → Store → Type 0
+  ValuesAt place stack count values s = Stands K scope slots s → length values ≡ count → X place (pushed (map OfValue values) stack) s
+
+  -- one after another
+  abbrev pub ValuesFollow : Code → List Evaluates → ℕ → Type 0
+  ValuesFollow code vs count = (p q : ℕ) (stack : List Item) (s : Store) → CodeHere p code q → Stands K scope slots s
+      → Comes K (ValuesAt q stack count) (all_of (map (λ (evaluates : Evaluates). evaluates c) vs) s) → X p stack s
+
+  pub no_value : ValuesFollow [] [] 0
+  no_value p q stack s from stands h = moved K scope slots stack s from (h stands refl)
+
+  pub more_values : (code others : Code) (v : Evaluates) (vs : List Evaluates) (count : ℕ) → ValueFollows code v → ValuesFollow others vs count → ValuesFollow (code ++ others) (v ∷ vs) (suc count)
+  more_values code others v vs count first rest p q stack s from stands h =
+      let one = from_parts K.setting.image.code code others p q from in
+      first p one.0 stack s one.1 stands
+      (goes_on K (ValuesAt q stack (suc count)) (V one.0 stack) (v c s) _ (λ a s1 h1 stands1.
+      rest one.0 q (OfValue a ∷ stack) s1 one.2 stands1
+      (goes_on K (ValuesAt q stack (suc count)) (ValuesAt q (OfValue a ∷ stack) count) (all_of (map (λ (evaluates : Evaluates). evaluates c) vs) s1) _
+      (λ values s2 h2 stands2 sized. h2 stands2 (ap suc sized)) h1))
+      h)
+
+  -- ---- places
+
+  pub reads : (t : Target) → ValueFollows (read_code (found_at env t)) (λ context. read context t)
+  reads t p q stack s from stands h =
       read_follows K scope slots p q stack s (found_at env t) from stands (subst (λ l. Comes K (V q stack) (words_of_location l s)) (located K callees env slots s t stands) h)
+
+  pub element_follows : (line : ℕ) (t : Target) (code : Code) (index : Evaluates) → ValueFollows code index
+      → ValueFollows (read_code (found_at env t) ++ (code ++ instruction.Index line ∷ [])) (λ context. element_of line (read context t) (index context))
+  element_follows line t code index on_index p q stack s from stands h =
+      let first = from_parts K.setting.image.code (read_code (found_at env t)) _ p q from in
+      let second = from_parts K.setting.image.code code _ first.0 q first.2 in
+      reads t p first.0 stack s first.1 stands
+      (goes_on K (V q stack) (V first.0 stack) (read c t s) _ (λ a s1 h1 stands1.
+      on_index first.0 second.0 (OfValue a ∷ stack) s1 second.1 stands1
+      (goes_on K (V q stack) (V second.0 (OfValue a ∷ stack)) (index c s1) _ (λ i s2 h2 stands2.
+      perform second.0 (OfValue i ∷ OfValue a ∷ stack) s2 (instruction.Index line) second.2.0
+      (indexed_follows K scope slots (V q stack) second.0 (OfValue i ∷ OfValue a ∷ stack) s2 line (index_below (length a.words) (word_of i)) _ _ stands2
+      (λ n h3. moved K scope slots (OfValue (record { words = slice_index_or a.words n (pos 0) ∷ []; is_bool = a.is_bool }) ∷ stack) s2 second.2.1 (h3 stands2)) h2))
+      h1))
+      h)
 
   -- ---- plain functions
 
@@ -146,6 +191,15 @@ module _ (K : Run) (ds : List Declaration) (members : List Member) (parts : List
       (λ ws t d same low within. moved K scope slots _ t code.1 (d (record { agree = same ∙ stands.agree; sized = stands.sized; low = low; within = within })))
       h))))))
 
+  pub plain_follows : (function : Name) (code : Code) (vs : List Evaluates) (count : ℕ) → FunctionTakes (function_named function.text ds) count → ValuesFollow code vs count
+      → ValueFollows (code ++ plain_code (number_of_function 0 function.text ds) count) (λ context. call_plain context function (map (λ (evaluates : Evaluates). evaluates context) vs))
+  plain_follows function code vs count takes arguments p q stack s from stands h =
+      let first = from_parts K.setting.image.code code _ p q from in
+      arguments p first.0 stack s first.1 stands
+      (goes_on K (V q stack) (ValuesAt first.0 stack count) (all_of (map (λ (evaluates : Evaluates). evaluates c) vs) s) _ (λ values s1 h1 stands1 sized.
+      calls_function first.0 q stack s1 function.text count values (function_named function.text ds) refl takes sized first.2 stands1 h1)
+      h)
+
   -- ---- where a value decides
 
   either_follows : (b : Bool) (v : Value) (p q : ℕ) (stack : List Item) (s : Store) (other : Step Value) (code : Code) → From K.setting.image.code (p + 1) code q → Stands K scope slots s
@@ -160,110 +214,79 @@ module _ (K : Run) (ds : List Declaration) (members : List Member) (parts : List
   both_follow true p q stack s other code from stands f h = f h
   both_follow false p q stack s other code from stands f h = moved K scope slots _ s (sym (from_length K.setting.image.code code (p + 1) q from)) (h stands)
 
-  -- ---- two operands
+  -- ---- operators
 
-  abbrev Follows : ExpressionTree → Type 0
-  Follows t = (p q : ℕ) (stack : List Item) (s : Store) → From K.setting.image.code p (expression_code env t) q → ExpressionFits ds t → Stands K scope slots s
-      → Comes K (V q stack) (tree_value t c s) → X p stack s
-
-  -- both operands, and then what an instruction makes of them
-  operands_follow : (left right : ExpressionTree) → Follows left → Follows right → (p q : ℕ) (stack : List Item) (s : Store) (i : Instruction)
-      → From K.setting.image.code p (expression_code env left ++ (expression_code env right ++ i ∷ [])) q → ExpressionFits ds left × ExpressionFits ds right → Stands K scope slots s
-      → (outcome : Value → Value → Step Value)
-      → ((a b : Value) (p1 : ℕ) (s1 : Store) → p1 + 1 ≡ q → Stands K scope slots s1 → Comes K (V q stack) (outcome a b s1)
-      → To K scope slots (performs K.setting i (running K p1 (OfValue b ∷ OfValue a ∷ stack) slots s1)))
-      → Comes K (V q stack) ((tree_value left c >>= (λ a. tree_value right c >>= outcome a)) s) → X p stack s
-  operands_follow left right on_left on_right p q stack s i from fits stands outcome ends h =
-      let first = from_parts K.setting.image.code (expression_code env left) _ p q from in
-      let second = from_parts K.setting.image.code (expression_code env right) _ first.0 q first.2 in
-      on_left p first.0 stack s first.1 fits.0 stands
-      (goes_on K (V q stack) (V first.0 stack) (tree_value left c s) _ (λ a s1 h1 stands1.
-      on_right first.0 second.0 (OfValue a ∷ stack) s1 second.1 fits.1 stands1
-      (goes_on K (V q stack) (V second.0 (OfValue a ∷ stack)) (tree_value right c s1) _ (λ b s2 h2 stands2.
-      perform second.0 (OfValue b ∷ OfValue a ∷ stack) s2 i second.2.0 (ends a b second.0 s2 second.2.1 stands2 h2))
-      h1))
+  pub unary_follows : (line : ℕ) (o : UnaryOperator) (code : Code) (operand : Evaluates) → ValueFollows code operand
+      → ValueFollows (code ++ instruction.Unary line o ∷ []) (value_of_unary line o operand)
+  unary_follows line o code operand on_operand p q stack s from stands h =
+      let first = from_parts K.setting.image.code code _ p q from in
+      on_operand p first.0 stack s first.1 stands
+      (goes_on K (V q stack) (V first.0 stack) (operand c s) _ (λ a s1 h1 stands1.
+      perform first.0 (OfValue a ∷ stack) s1 (instruction.Unary line o) first.2.0 (alone_follows K scope slots first.0 q (OfValue a ∷ stack) stack s1 line o a first.2.1 stands1 h1))
       h)
 
-  binary_follows : (line : ℕ) (operator : BinaryOperator) (left right : ExpressionTree) → Follows left → Follows right → (p q : ℕ) (stack : List Item) (s : Store)
-      → From K.setting.image.code p (binary_code line operator (expression_code env left) (expression_code env right)) q → ExpressionFits ds left × ExpressionFits ds right → Stands K scope slots s
-      → Comes K (V q stack) (value_of_binary line operator (tree_value left) (tree_value right) c s) → X p stack s
-  binary_follows line levels.Or left right on_left on_right p q stack s from fits stands h =
-      let first = from_parts K.setting.image.code (expression_code env left) _ p q from in
-      on_left p first.0 stack s first.1 fits.0 stands
-      (goes_on K (V q stack) (V first.0 stack) (tree_value left c s) _ (λ a s1 h1 stands1.
-      perform first.0 (OfValue a ∷ stack) s1 (instruction.Or (length (expression_code env right))) first.2.0
-      (either_follows (is_true a) (bool_value true) first.0 q stack s1 (tree_value right c) (expression_code env right) first.2.1 stands1
-      (λ d. on_right (first.0 + 1) q stack s1 first.2.1 fits.1 stands1 d) h1))
-      h)
-  binary_follows line levels.And left right on_left on_right p q stack s from fits stands h =
-      let first = from_parts K.setting.image.code (expression_code env left) _ p q from in
-      on_left p first.0 stack s first.1 fits.0 stands
-      (goes_on K (V q stack) (V first.0 stack) (tree_value left c s) _ (λ a s1 h1 stands1.
-      perform first.0 (OfValue a ∷ stack) s1 (instruction.And (length (expression_code env right))) first.2.0
-      (both_follow (is_true a) first.0 q stack s1 (tree_value right c) (expression_code env right) first.2.1 stands1
-      (λ d. on_right (first.0 + 1) q stack s1 first.2.1 fits.1 stands1 d) h1))
-      h)
-  binary_follows line (levels.Equate o) left right on_left on_right p q stack s from fits stands h =
-      operands_follow left right on_left on_right p q stack s (instruction.Binary line (operator.Equate o)) from fits stands (λ a b. pure (bool_value (equality_test o (word_of a) (word_of b))))
-      (λ a b p1 s1 e stands1 h1. moved K scope slots _ s1 e (h1 stands1)) h
-  binary_follows line (levels.Compare o) left right on_left on_right p q stack s from fits stands h =
-      operands_follow left right on_left on_right p q stack s (instruction.Binary line (operator.Compare o)) from fits stands (λ a b. pure (bool_value (relation_test o (word_of a) (word_of b))))
-      (λ a b p1 s1 e stands1 h1. moved K scope slots _ s1 e (h1 stands1)) h
-  binary_follows line (levels.Add o) left right on_left on_right p q stack s from fits stands h =
-      operands_follow left right on_left on_right p q stack s (instruction.Binary line (operator.Add o)) from fits stands
-      (λ a b. computed line (sum_operation o (word_of a) (word_of b)) >>= (λ z. pure (int_value z)))
-      (λ a b p1 s1 e stands1 h1. computes_follows K scope slots p1 q (OfValue b ∷ OfValue a ∷ stack) stack s1 line (sum_operation o (word_of a) (word_of b)) e stands1 h1) h
-  binary_follows line (levels.Multiply o) left right on_left on_right p q stack s from fits stands h =
-      operands_follow left right on_left on_right p q stack s (instruction.Binary line (operator.Multiply o)) from fits stands
-      (λ a b. computed line (term_operation o (word_of a) (word_of b)) >>= (λ z. pure (int_value z)))
-      (λ a b p1 s1 e stands1 h1. computes_follows K scope slots p1 q (OfValue b ∷ OfValue a ∷ stack) stack s1 line (term_operation o (word_of a) (word_of b)) e stands1 h1) h
-
-  -- ---- the forms
-
-  mutual
-    pub expression_follows : (t : ExpressionTree) (p q : ℕ) (stack : List Item) (s : Store) → From K.setting.image.code p (expression_code env t) q → ExpressionFits ds t → Stands K scope slots s
-        → Comes K (V q stack) (tree_value t c s) → X p stack s
-    expression_follows (e.Number z) p q stack s from fits stands h = perform p stack s (instruction.Number z) from.0 (moved K scope slots _ s from.1 (h stands))
-    expression_follows (e.Truth b) p q stack s from fits stands h = perform p stack s (instruction.Truth b) from.0 (moved K scope slots _ s from.1 (h stands))
-    expression_follows e.Own p q stack s from fits stands h = perform p stack s instruction.Own from.0 (moved K scope slots _ s from.1 (h stands))
-    expression_follows (e.Input line) p q stack s from fits stands h = perform p stack s (instruction.Input line) from.0 (input_follows K scope slots p q stack s line s.input from.1 stands h)
-    expression_follows (e.Read target) p q stack s from fits stands h = reads p q stack s target from stands h
-    expression_follows (e.Element line target index) p q stack s from fits stands h =
-        let first = from_parts K.setting.image.code (read_code (found_at env target)) _ p q from in
-        let second = from_parts K.setting.image.code (expression_code env index) _ first.0 q first.2 in
-        reads p first.0 stack s target first.1 stands
-        (goes_on K (V q stack) (V first.0 stack) (read c target s) _ (λ a s1 h1 stands1.
-        expression_follows index first.0 second.0 (OfValue a ∷ stack) s1 second.1 fits stands1
-        (goes_on K (V q stack) (V second.0 (OfValue a ∷ stack)) (tree_value index c s1) _ (λ i s2 h2 stands2.
-        perform second.0 (OfValue i ∷ OfValue a ∷ stack) s2 (instruction.Index line) second.2.0
-        (indexed_follows K scope slots (V q stack) second.0 (OfValue i ∷ OfValue a ∷ stack) s2 line (index_below (length a.words) (word_of i)) _ _ stands2 (λ n h3. moved K scope slots (OfValue (record { words = slice_index_or a.words n (pos 0) ∷ []; is_bool = a.is_bool }) ∷ stack) s2 second.2.1 (h3 stands2)) h2))
+  module _ (left_code right_code : Code) (left right : Evaluates) (on_left : ValueFollows left_code left) (on_right : ValueFollows right_code right) where
+    -- both operands, and then what an instruction makes of them
+    operands_follow : (p q : ℕ) (stack : List Item) (s : Store) (i : Instruction)
+        → CodeHere p (left_code ++ (right_code ++ i ∷ [])) q → Stands K scope slots s
+        → (outcome : Value → Value → Step Value)
+        → ((a b : Value) (p1 : ℕ) (s1 : Store) → p1 + 1 ≡ q → Stands K scope slots s1 → Comes K (V q stack) (outcome a b s1)
+        → To K scope slots (performs K.setting i (running K p1 (OfValue b ∷ OfValue a ∷ stack) slots s1)))
+        → Comes K (V q stack) ((left c >>= (λ a. right c >>= outcome a)) s) → X p stack s
+    operands_follow p q stack s i from stands outcome ends h =
+        let first = from_parts K.setting.image.code left_code _ p q from in
+        let second = from_parts K.setting.image.code right_code _ first.0 q first.2 in
+        on_left p first.0 stack s first.1 stands
+        (goes_on K (V q stack) (V first.0 stack) (left c s) _ (λ a s1 h1 stands1.
+        on_right first.0 second.0 (OfValue a ∷ stack) s1 second.1 stands1
+        (goes_on K (V q stack) (V second.0 (OfValue a ∷ stack)) (right c s1) _ (λ b s2 h2 stands2.
+        perform second.0 (OfValue b ∷ OfValue a ∷ stack) s2 i second.2.0 (ends a b second.0 s2 second.2.1 stands2 h2))
         h1))
         h)
-    expression_follows (e.CallPlain function arguments) p q stack s from fits stands h =
-        let first = from_parts K.setting.image.code (expressions_code env arguments) _ p q from in
-        expressions_follow arguments p first.0 stack s first.1 fits.1 stands
-        (goes_on K (V q stack) _ (all_of (map (λ (evaluates : Evaluates). evaluates c) (tree_values arguments)) s) _ (λ values s1 h1 stands1 sized.
-        calls_function first.0 q stack s1 function.text (count_of arguments) values (function_named function.text ds) refl fits.0 sized first.2 stands1 h1)
-        h)
-    expression_follows (e.Parenthesized inner) p q stack s from fits stands h = expression_follows inner p q stack s from fits stands h
-    expression_follows (e.Unary line operator operand) p q stack s from fits stands h =
-        let first = from_parts K.setting.image.code (expression_code env operand) _ p q from in
-        expression_follows operand p first.0 stack s first.1 fits stands
-        (goes_on K (V q stack) (V first.0 stack) (tree_value operand c s) _ (λ a s1 h1 stands1.
-        perform first.0 (OfValue a ∷ stack) s1 (instruction.Unary line operator) first.2.0 (alone_follows K scope slots first.0 q (OfValue a ∷ stack) stack s1 line operator a first.2.1 stands1 h1))
-        h)
-    expression_follows (e.Binary line operator left right) p q stack s from fits stands h =
-        binary_follows line operator left right (expression_follows left) (expression_follows right) p q stack s from fits stands h
 
-    -- one after another
-    pub expressions_follow : (ts : ExpressionTrees) (p q : ℕ) (stack : List Item) (s : Store) → From K.setting.image.code p (expressions_code env ts) q → ExpressionsFit ds ts → Stands K scope slots s
-        → Comes K (λ values s1. Stands K scope slots s1 → length values ≡ count_of ts → X q (pushed (map OfValue values) stack) s1) (all_of (map (λ (evaluates : Evaluates). evaluates c) (tree_values ts)) s)
-        → X p stack s
-    expressions_follow e.NoExpression p q stack s from fits stands h = moved K scope slots stack s from (h stands refl)
-    expressions_follow (e.MoreExpressions t ts) p q stack s from fits stands h =
-        let first = from_parts K.setting.image.code (expression_code env t) _ p q from in
-        expression_follows t p first.0 stack s first.1 fits.0 stands
-        (goes_on K _ (V first.0 stack) (tree_value t c s) _ (λ v s1 h1 stands1.
-        expressions_follow ts first.0 q (OfValue v ∷ stack) s1 first.2 fits.1 stands1
-        (goes_on K _ _ (all_of (map (λ (evaluates : Evaluates). evaluates c) (tree_values ts)) s1) _ (λ values s2 h2 stands2 sized. h2 stands2 (ap suc sized)) h1))
+    pub binary_follows : (line : ℕ) (operator : BinaryOperator) → ValueFollows (binary_code line operator left_code right_code) (value_of_binary line operator left right)
+    binary_follows line levels.Or p q stack s from stands h =
+        let first = from_parts K.setting.image.code left_code _ p q from in
+        on_left p first.0 stack s first.1 stands
+        (goes_on K (V q stack) (V first.0 stack) (left c s) _ (λ a s1 h1 stands1.
+        perform first.0 (OfValue a ∷ stack) s1 (instruction.Or (length right_code)) first.2.0
+        (either_follows (is_true a) (bool_value true) first.0 q stack s1 (right c) right_code first.2.1 stands1
+        (λ d. on_right (first.0 + 1) q stack s1 first.2.1 stands1 d) h1))
         h)
+    binary_follows line levels.And p q stack s from stands h =
+        let first = from_parts K.setting.image.code left_code _ p q from in
+        on_left p first.0 stack s first.1 stands
+        (goes_on K (V q stack) (V first.0 stack) (left c s) _ (λ a s1 h1 stands1.
+        perform first.0 (OfValue a ∷ stack) s1 (instruction.And (length right_code)) first.2.0
+        (both_follow (is_true a) first.0 q stack s1 (right c) right_code first.2.1 stands1
+        (λ d. on_right (first.0 + 1) q stack s1 first.2.1 stands1 d) h1))
+        h)
+    binary_follows line (levels.Equate o) p q stack s from stands h =
+        operands_follow p q stack s (instruction.Binary line (operator.Equate o)) from stands (λ a b. pure (bool_value (equality_test o (word_of a) (word_of b))))
+        (λ a b p1 s1 e stands1 h1. moved K scope slots _ s1 e (h1 stands1)) h
+    binary_follows line (levels.Compare o) p q stack s from stands h =
+        operands_follow p q stack s (instruction.Binary line (operator.Compare o)) from stands (λ a b. pure (bool_value (relation_test o (word_of a) (word_of b))))
+        (λ a b p1 s1 e stands1 h1. moved K scope slots _ s1 e (h1 stands1)) h
+    binary_follows line (levels.Add o) p q stack s from stands h =
+        operands_follow p q stack s (instruction.Binary line (operator.Add o)) from stands
+        (λ a b. computed line (sum_operation o (word_of a) (word_of b)) >>= (λ z. pure (int_value z)))
+        (λ a b p1 s1 e stands1 h1. computes_follows K scope slots p1 q (OfValue b ∷ OfValue a ∷ stack) stack s1 line (sum_operation o (word_of a) (word_of b)) e stands1 h1) h
+    binary_follows line (levels.Multiply o) p q stack s from stands h =
+        operands_follow p q stack s (instruction.Binary line (operator.Multiply o)) from stands
+        (λ a b. computed line (term_operation o (word_of a) (word_of b)) >>= (λ z. pure (int_value z)))
+        (λ a b p1 s1 e stands1 h1. computes_follows K scope slots p1 q (OfValue b ∷ OfValue a ∷ stack) stack s1 line (term_operation o (word_of a) (word_of b)) e stands1 h1) h
+
+  -- ---- what is there at once
+
+  pub number_follows : (z : ℤ) → ValueFollows (instruction.Number z ∷ []) (λ context. pure (int_value z))
+  number_follows z p q stack s from stands h = perform p stack s (instruction.Number z) from.0 (moved K scope slots _ s from.1 (h stands))
+
+  pub truth_follows : (b : Bool) → ValueFollows (instruction.Truth b ∷ []) (λ context. pure (bool_value b))
+  truth_follows b p q stack s from stands h = perform p stack s (instruction.Truth b) from.0 (moved K scope slots _ s from.1 (h stands))
+
+  pub self_follows : ValueFollows (instruction.Own ∷ []) (λ context. pure (int_value context.object))
+  self_follows p q stack s from stands h = perform p stack s instruction.Own from.0 (moved K scope slots _ s from.1 (h stands))
+
+  pub next_follows : (line : ℕ) → ValueFollows (instruction.Input line ∷ []) (λ context. next_number line)
+  next_follows line p q stack s from stands h =
+      perform p stack s (instruction.Input line) from.0 (input_follows K scope slots p q stack s line s.input from.1 stands h)

@@ -1,4 +1,4 @@
--- The code of a flow does what the flow means.
+-- The code of what is passed on does what that means, where the code of its parts does.
 use Rattle.std.proofs.Common.{◌≡◌, ◌≤◌, ◌<◌, ℕ, suc, ◌+◌, Bool, true, false, List, [], ◌∷◌, ◌++◌, length, map, drop, Option, Some, None, if◌then◌else◌, ℤ, pos, refl, ap, ap₂, sym, subst, arith, ◌∙◌}
 use Rattle.std.proofs.lemmas.Bool.{ltb-true}
 use Rattle.std.proofs.lemmas.List.{length-map}
@@ -6,6 +6,8 @@ use Rattle.std.specs.FinMap.{FinMap, empty, get, get-empty}
 use Rattle.std.specs.Ordering.{int_eq, nat_cmp}
 use Rattle.std.specs.Prelude.{nat_lt, slice_get}
 use Rattle.std.specs.Option.{option_map}
+use Rattle.mpl_ast.specs.declared.expression.Target.{Target}
+use Rattle.mpl_ast.specs.declared.place.Name.{Name}
 use Rattle.mpl_ast.specs.declared.program.Declaration.{Declaration}
 use Rattle.mpl_ast.specs.declared.statement.TypeName.{TypeName}
 use Rattle.mpl_ast.specs.declared.statement.TypeName.TheVariants as type
@@ -16,27 +18,27 @@ use Rattle.mpl_value.specs.declared.body.BodyEnd.TheVariants as end
 use Rattle.mpl_value.specs.declared.known.Known.{Known}
 use Rattle.mpl_value.specs.declared.known.Trap.{Trap}
 use Rattle.mpl_value.specs.declared.known.TrapKind.TheVariants.{Unbound}
-use Rattle.mpl_mean.specs.Meaning.CallMeaning.{MayName, answer, at_context, bound, call_of_member, call_on, class_of_location, held_or, made, persistent_call, regular_call, unless_trapped, whole_variable}
+use Rattle.mpl_mean.specs.Meaning.CallMeaning.{MayName, Passes, answer, at_context, bound, call_of_member, call_on, class_of_location, held_or, made, persistent_call, regular_call, unless_trapped, whole_variable}
 use Rattle.mpl_mean.specs.Meaning.Context.{Callees, Context}
+use Rattle.mpl_mean.specs.Meaning.ExpressionMeaning.{Evaluates}
 use Rattle.mpl_mean.specs.Meaning.Layout.{Class, Member, Part, class_named, class_of_type, classes_of, member_named}
 use Rattle.mpl_mean.specs.Meaning.PlaceMeaning.{words_of_location}
-use Rattle.mpl_mean.specs.Meaning.Store.{Store, Goes, Ends, Step, ◌>>=◌, ◌>>◌, all_of, and_then, pure, spend, trap, variable_named}
+use Rattle.mpl_mean.specs.Meaning.Store.{Store, Goes, Ends, Step, ◌>>=◌, ◌>>◌, all_of, and_then, force, pure, spend, trap, variable_named}
 use Rattle.mpl_mean.specs.Meaning.Values.{first_word, int_value, word_of}
-use Rattle.mpl_plain.specs.ExpressionTrees.{ExpressionTree, tree_name, tree_value}
-use Rattle.mpl_plain.specs.FlowTrees.{FlowTree, FlowTrees, tree_passes, trees_pass}
-use Rattle.mpl_plain.specs.FlowTrees as f
-use Rattle.mpl_body_code.specs.Arity.{ClassTakes, ExpressionFits, FlowFits, FlowsFit, MemberTakes}
-use Rattle.mpl_body_code.specs.Codes.{Code, From, count_of_flows, expression_code, flow_code, flows_code, object_code, own_code, passed_code, read_code, regular_code, regular_env, target_code, whole_slot}
+use Rattle.mpl_plain.specs.ExprMeaning.{call_on_own, call_on_place, means_result, passed}
+use Rattle.mpl_plain.specs.Arity.{ClassTakes, MemberTakes}
+use Rattle.mpl_body_code.specs.Codes.{Code, From, object_code, own_code, passed_code, read_code, regular_code, target_code, slot_of_name}
 use Rattle.mpl_body_code.specs.Images.{HasCode, MemberAt}
 use Rattle.mpl_body_code.specs.Machine.{Item, Machine, Next, OfValue, OfTrap, NotKnown, arg_of, held, item_of}
-use Rattle.mpl_body_code.specs.Scopes.{Env, Found, Shape, Slot, class_found, found_at}
+use Rattle.mpl_mean.specs.Plain.Scopes.{Env, Found, Shape, Slot, class_found, found_at, regular_env}
 use Rattle.mpl_body_code.specs.Steps.{answers, begins_regular, calls_object, calls_regular, onward, performs, replies, spends, stops, top_of, with_call}
 use Rattle.mpl_body_code.specs.Steps as steps
 use Rattle.mpl_body_code.specs.declared.instruction.Instruction.{Instruction}
 use Rattle.mpl_body_code.specs.declared.instruction.Instruction.TheVariants as instruction
 use Rattle.mpl_body_code.proofs.Arguments.{below_pushed, pushed, top_pushed}
 use Rattle.mpl_body_code.proofs.Below.{Below}
-use Rattle.mpl_body_code.proofs.Expressions.{At, To, ValueAt, expression_follows, moved, read_follows}
+use Rattle.mpl_body_code.proofs.Expressions.{At, To, ValueAt, moved, read_follows}
+use Rattle.mpl_body_code.proofs.Expressions as exprs
 use Rattle.mpl_body_code.proofs.Reaching.{Comes, comes_map, Run, from_parts, goes_on, performing, running}
 use Rattle.mpl_body_code.proofs.Scoped.{Stands, context_of, located, location_at, named, variable_at}
 
@@ -75,6 +77,10 @@ module _ (K : Run) (scope : List Shape) (slots : List Arg) where
   abbrev pub ItemAt : ℕ → List Item → Arg → Store → Type 0
   ItemAt place stack a s = Stands K scope slots s → (item : Item) → arg_of item ≡ a → At K scope slots place (item ∷ stack) s
 
+  -- the result of a call is on top at a place, as a reply or a body in place left it
+  abbrev pub ResultAt : ℕ → List Item → Arg → Store → Type 0
+  ResultAt place stack a s = Stands K scope slots s → At K scope slots place (item_of a ∷ stack) s
+
   abbrev pub turned : Store → Store
   turned s = record s { turns = s.turns + 1 }
 
@@ -92,17 +98,17 @@ module _ (K : Run) (scope : List Shape) (slots : List Arg) where
     by_turns false is h = let low : K.low ≤ s.turns = stands.low in h (omega arith) (λ other. absurd (other refl))
 
   answers_follow : (p q : ℕ) (stack below : List Item) (s : Store) (args : List Arg) (known : Step Arg) (next : Next) → p + 1 ≡ q → Stands K scope slots s
-      → (any_unknown args ≡ false → leftmost_trap args ≡ None → Comes K (ItemAt q below) (known s) → To K scope slots next)
-      → Comes K (ItemAt q below) (answer args known s) → To K scope slots (answers (running K p stack slots s) args next below)
+      → (any_unknown args ≡ false → leftmost_trap args ≡ None → Comes K (ResultAt q below) (known s) → To K scope slots next)
+      → Comes K (ResultAt q below) (answer args known s) → To K scope slots (answers (running K p stack slots s) args next below)
   answers_follow p q stack below s args known next e stands f h = by_unknown (any_unknown args) refl h where
-    by_trap : (trap : Option Trap) → leftmost_trap args ≡ trap → any_unknown args ≡ false → Comes K (ItemAt q below) (unless_trapped trap known s)
+    by_trap : (trap : Option Trap) → leftmost_trap args ≡ trap → any_unknown args ≡ false → Comes K (ResultAt q below) (unless_trapped trap known s)
         → To K scope slots (steps.unless_trapped (running K p stack slots s) trap next below)
     by_trap None is u h = f u is h
-    by_trap (Some trap) is u h = moved K scope slots (OfTrap trap ∷ below) s e (h stands (OfTrap trap) refl)
+    by_trap (Some trap) is u h = moved K scope slots (OfTrap trap ∷ below) s e (h stands)
 
-    by_unknown : (b : Bool) → any_unknown args ≡ b → Comes K (ItemAt q below) ((if b then pure arg.Unknown else unless_trapped (leftmost_trap args) known) s)
+    by_unknown : (b : Bool) → any_unknown args ≡ b → Comes K (ResultAt q below) ((if b then pure arg.Unknown else unless_trapped (leftmost_trap args) known) s)
         → To K scope slots (if b then onward (running K p stack slots s) (NotKnown ∷ below) else steps.unless_trapped (running K p stack slots s) (leftmost_trap args) next below)
-    by_unknown true is h = moved K scope slots (NotKnown ∷ below) s e (h stands NotKnown refl)
+    by_unknown true is h = moved K scope slots (NotKnown ∷ below) s e (h stands)
     by_unknown false is h = by_trap (leftmost_trap args) refl is h
 
 module _ (K : Run) (ds : List Declaration) (members : List Member) (parts : List Part) (callees : Callees) (has : HasCode K.setting ds)
@@ -116,6 +122,9 @@ module _ (K : Run) (ds : List Declaration) (members : List Member) (parts : List
   abbrev I : ℕ → List Item → Arg → Store → Type 0
   I = ItemAt K scope slots
 
+  abbrev R : ℕ → List Item → Arg → Store → Type 0
+  R = ResultAt K scope slots
+
   abbrev X : ℕ → List Item → Store → Type 0
   X = At K scope slots
 
@@ -127,17 +136,51 @@ module _ (K : Run) (ds : List Declaration) (members : List Member) (parts : List
 
   -- ---- what is passed as it stands
 
-  whole_same : (s : Store) (name : MayName) → Stands K scope slots s → whole_variable name s.variables ≡ option_map (variable_at slots) (whole_slot env name)
+  whole_same : (s : Store) (name : MayName) → Stands K scope slots s → whole_variable name s.variables ≡ option_map (variable_at slots) (slot_of_name env name)
   whole_same s None stands = refl
   whole_same s (Some name) stands = ap (λ vs. variable_named name vs) stands.agree ∙ named name scope slots stands.sized
 
-  passed_follows : (slot : Option Slot) (t : ExpressionTree) (p q : ℕ) (stack : List Item) (s : Store) → CodeFrom p (passed_code slot (expression_code env t)) q → ExpressionFits ds t → Stands K scope slots s
-      → Comes K (I q stack) (held_or (option_map (variable_at slots) slot) (tree_value t c) s) → X p stack s
-  passed_follows None t p q stack s from fits stands h =
-      expression_follows K ds members parts callees has base below above scope slots t p q stack s from fits stands
-      (goes_on K (I q stack) (ValueAt K scope slots q stack) (tree_value t c s) _ (λ v s1 h1 stands1. h1 stands1 (OfValue v) refl) h)
-  passed_follows (Some slot) t p q stack s from fits stands h =
+  -- the code of a value, and its meaning
+  abbrev ValueFollows : Code → Evaluates → Type 0
+  ValueFollows = exprs.ValueFollows K ds members parts callees has base below above scope slots
+
+  -- the code leaves what is passed on, wherever it stands
+  abbrev pub FlowFollows : Code → Passes → Type 0
+  FlowFollows code f = (p q : ℕ) (stack : List Item) (s : Store) → CodeFrom p code q → Stands K scope slots s → Comes K (I q stack) (f c s) → X p stack s
+
+  -- the code leaves the result of a call
+  abbrev pub ResultFollows : Code → Passes → Type 0
+  ResultFollows code f = (p q : ℕ) (stack : List Item) (s : Store) → CodeFrom p code q → Stands K scope slots s → Comes K (R q stack) (f c s) → X p stack s
+
+  by_slot : (slot : Option Slot) (code : Code) (v : Evaluates) → ValueFollows code v → (p q : ℕ) (stack : List Item) (s : Store) → CodeFrom p (passed_code slot code) q → Stands K scope slots s
+      → Comes K (I q stack) (held_or (option_map (variable_at slots) slot) (v c) s) → X p stack s
+  by_slot None code v follows p q stack s from stands h =
+      follows p q stack s from stands (goes_on K (I q stack) (ValueAt K scope slots q stack) (v c s) _ (λ v s1 h1 stands1. h1 stands1 (OfValue v) refl) h)
+  by_slot (Some slot) code v follows p q stack s from stands h =
       perform p stack s (instruction.Pass slot.number) from.0 (moved K scope slots (item_of (held slot.number slots) ∷ stack) s from.1 (h stands (item_of (held slot.number slots)) (arg_item (held slot.number slots))))
+
+  pub passed_follows : (name : MayName) (code : Code) (v : Evaluates) → ValueFollows code v → FlowFollows (passed_code (slot_of_name env name) code) (passed name v)
+  passed_follows name code v follows p q stack s from stands h =
+      by_slot (slot_of_name env name) code v follows p q stack s from stands (subst (λ o. Comes K (I q stack) (held_or o (v c) s)) (whole_same s name stands) h)
+
+  pub result_follows : (code : Code) (f : Passes) → ResultFollows code f → FlowFollows code f
+  result_follows code f follows p q stack s from stands h = follows p q stack s from stands (comes_map K (f c s) (λ a s1 h1 stands1. h1 stands1 (item_of a) (arg_item a)) h)
+
+  -- a result that is forced is a value
+  forced_result : (a : Arg) (p q : ℕ) (stack : List Item) (s : Store) → p + 1 ≡ q → Stands K scope slots s
+      → Comes K (ValueAt K scope slots q stack) ((force a >>= (λ words. pure (record { words = words; is_bool = false }))) s)
+      → To K scope slots (performs K.setting instruction.Force (running K p (item_of a ∷ stack) slots s))
+  forced_result (arg.Know words) p q stack s e stands h = moved K scope slots (item_of (arg.Know words) ∷ stack) s e (h stands)
+  forced_result (arg.Trapped trap) p q stack s e stands h = h stands.low (λ _. stands.within)
+  forced_result arg.Unknown p q stack s e stands h = h stands.low (λ _. stands.within)
+
+  pub forced_follows : (code : Code) (f : Passes) → ResultFollows code f → ValueFollows (code ++ instruction.Force ∷ []) (means_result f).value
+  forced_follows code f follows p q stack s from stands h =
+      let first = from_parts K.setting.image.code code _ p q from in
+      follows p first.0 stack s first.1 stands
+      (goes_on K (ValueAt K scope slots q stack) (R first.0 stack) (f c s) _ (λ a s1 h1 stands1.
+      perform first.0 (item_of a ∷ stack) s1 instruction.Force first.2.0 (forced_result a first.0 q stack s1 first.2.1 stands1 h1))
+      h)
 
   -- ---- calls, behind their arguments
 
@@ -147,7 +190,7 @@ module _ (K : Run) (ds : List Declaration) (members : List Member) (parts : List
 
   object_called : (m : Member) (object : ℤ) (p q count : ℕ) (stack : List Item) (s : Store) (items : List Item) (args : List Arg)
       → CodeFrom p (instruction.CallObject m.id count ∷ []) q → Stands K scope slots s → map arg_of items ≡ args → length items ≡ count
-      → Comes K (I q stack) ((spend c.turns >> (made object m.id args >>= (λ k. answer args (pure (arg_of_reply (get c.replies k)))))) s)
+      → Comes K (R q stack) ((spend c.turns >> (made object m.id args >>= (λ k. answer args (pure (arg_of_reply (get c.replies k)))))) s)
       → X p (pushed items (OfValue (int_value object) ∷ stack)) s
   object_called m object p q count stack s items args from stands is sized h =
       let lower : List Item = OfValue (int_value object) ∷ stack in
@@ -158,19 +201,18 @@ module _ (K : Run) (ds : List Declaration) (members : List Member) (parts : List
       (subst (λ (rest : List Item). To K scope slots (steps.on_value x rest (λ value under. calls_object K.setting x m.id (map arg_of (top_of count all)) (word_of value) under))) (sym (below_pushed items lower count sized))
       (subst (λ (top : List Item). To K scope slots (calls_object K.setting x m.id (map arg_of top) object stack)) (sym (top_pushed items lower count sized))
       (subst (λ (passed : List Arg). To K scope slots (calls_object K.setting x m.id passed object stack)) (sym is)
-      (spends_follow K scope slots (I q stack) p all s rest (λ x. replies K.setting (with_call x object m.id args) (length x.body.calls + 1) args stack) stands (λ stands1 h1.
+      (spends_follow K scope slots (R q stack) p all s rest (λ x. replies K.setting (with_call x object m.id args) (length x.body.calls + 1) args stack) stands (λ stands1 h1.
       let s2 : Store = record (turned K scope slots s) { calls = s.calls ++ record { call = length s.calls + 1; object = object; member = record { 0 = m.id }; args = args } ∷ [] } in
       let stands2 : Stands K scope slots s2 = record { agree = stands.agree; sized = stands.sized; low = stands1.low; within = stands1.within } in
       answers_follow K scope slots p q all stack s2 args (pure (arg_of_reply (get c.replies (length s.calls + 1)))) _ from.1 stands2
       (λ u t h2. moved K scope slots _ s2 from.1
-      (h2 stands2 (item_of (arg_of_reply (if K.answered then get K.setting.replies (length s.calls + 1) else None)))
-      (arg_item (arg_of_reply (if K.answered then get K.setting.replies (length s.calls + 1) else None)) ∙ ap arg_of_reply (sym (replied_same K.answered K.setting.replies (length s.calls + 1))))))
+      (subst (λ r. X q (item_of (arg_of_reply r) ∷ stack) s2) (replied_same K.answered K.setting.replies (length s.calls + 1)) (h2 stands2)))
       h1)
       h))))
 
   regular_called : (m : Member) (found : MemberAt K.setting (regular_env ds m) m) (p q count : ℕ) (stack : List Item) (s : Store) (items : List Item) (args : List Arg)
       → length m.formals ≡ count → CodeFrom p (instruction.CallRegular m.id count ∷ []) q → Stands K scope slots s → map arg_of items ≡ args → length items ≡ count
-      → Comes K (I q stack) ((spend c.turns >> answer args (callees.regular m (known_words args))) s)
+      → Comes K (R q stack) ((spend c.turns >> answer args (callees.regular m (known_words args))) s)
       → X p (pushed items stack) s
   regular_called m found p q count stack s items args takes from stands is sized h =
       let all = pushed items stack in
@@ -180,116 +222,117 @@ module _ (K : Run) (ds : List Declaration) (members : List Member) (parts : List
       (subst (λ (top : List Item). To K scope slots (calls_regular K.setting x (Some found.code) (map arg_of top) (drop count all))) (sym (top_pushed items stack count sized))
       (subst (λ (under : List Item). To K scope slots (calls_regular K.setting x (Some found.code) (map arg_of items) under)) (sym (below_pushed items stack count sized))
       (subst (λ (passed : List Arg). To K scope slots (calls_regular K.setting x (Some found.code) passed stack)) (sym is)
-      (spends_follow K scope slots (I q stack) p all s (answer args (callees.regular m (known_words args))) (λ x. answers x args (begins_regular K.setting x found.code args stack) stack) stands (λ stands1 h1.
+      (spends_follow K scope slots (R q stack) p all s (answer args (callees.regular m (known_words args))) (λ x. answers x args (begins_regular K.setting x found.code args stack) stack) stands (λ stands1 h1.
       answers_follow K scope slots p q all stack (turned K scope slots s) args (callees.regular m (known_words args)) _ from.1 stands1
       (λ u t h2.
       subst (λ (passed : List Arg). To K scope slots (begins_regular K.setting (running K p all slots (turned K scope slots s)) found.code passed stack)) (known_same args u t)
       (below.regular K.low above K.around m found.code found.is (known_words args)
       (takes ∙ sym sized ∙ sym (length-map items arg_of) ∙ ap length is ∙ sym (known_few args u t)) p all stack slots (turned K scope slots s) stands1.low stands1.within
       (comes_map K (callees.regular m (known_words args) (turned K scope slots s))
-      (λ a s2 h3 same low within. moved K scope slots _ s2 from.1 (h3 (record { agree = same ∙ stands.agree; sized = stands.sized; low = low; within = within }) (item_of a) (arg_item a)))
+      (λ a s2 h3 same low within. moved K scope slots _ s2 from.1 (h3 (record { agree = same ∙ stands.agree; sized = stands.sized; low = low; within = within })))
       h2)))
       h1)
       h)))))
 
   -- ---- arguments before calls
 
-  abbrev ArgumentsFollow : FlowTrees → Type 0
-  ArgumentsFollow ts = (p q : ℕ) (stack : List Item) (s : Store) → CodeFrom p (flows_code env ts) q → Stands K scope slots s
-      → Comes K (Pushed q stack (count_of_flows ts)) (all_of (at_context c (trees_pass ts)) s) → X p stack s
+  -- the code pushes so many arguments, wherever it stands
+  abbrev pub ArgumentsFollow : Code → List Passes → ℕ → Type 0
+  ArgumentsFollow code fs count = (p q : ℕ) (stack : List Item) (s : Store) → CodeFrom p code q → Stands K scope slots s
+      → Comes K (Pushed q stack count) (all_of (at_context c fs) s) → X p stack s
 
-  object_follows : (ts : FlowTrees) → ArgumentsFollow ts → (found : Option Member) (object : ℤ) (p q : ℕ) (stack : List Item) (s : Store)
-      → CodeFrom p (object_code found (count_of_flows ts) (flows_code env ts)) q → Stands K scope slots s
-      → Comes K (I q stack) (call_of_member found (λ m. persistent_call c object m (at_context c (trees_pass ts))) s) → X p (OfValue (int_value object) ∷ stack) s
-  object_follows ts arguments None object p q stack s from stands h = perform p _ s instruction.Wait from.0 (h stands.low (λ _. stands.within))
-  object_follows ts arguments (Some m) object p q stack s from stands h =
-      let first = from_parts K.setting.image.code (flows_code env ts) _ p q from in
-      arguments p first.0 (OfValue (int_value object) ∷ stack) s first.1 stands
-      (goes_on K (I q stack) _ (all_of (at_context c (trees_pass ts)) s) _ (λ args s1 h1 stands1 items is sized.
-      object_called m object first.0 q (count_of_flows ts) stack s1 items args first.2 stands1 is sized h1)
+  pub no_argument : ArgumentsFollow [] [] 0
+  no_argument p q stack s from stands h = moved K scope slots stack s from (h stands [] refl refl)
+
+  pub more_arguments : (code others : Code) (f : Passes) (fs : List Passes) (count : ℕ) → FlowFollows code f → ArgumentsFollow others fs count → ArgumentsFollow (code ++ others) (f ∷ fs) (suc count)
+  more_arguments code others f fs count first rest p q stack s from stands h =
+      let one = from_parts K.setting.image.code code others p q from in
+      first p one.0 stack s one.1 stands
+      (goes_on K (Pushed q stack (suc count)) (I one.0 stack) (f c s) _ (λ a s1 h1 stands1 item is.
+      rest one.0 q (item ∷ stack) s1 one.2 stands1
+      (goes_on K (Pushed q stack (suc count)) (Pushed q (item ∷ stack) count) (all_of (at_context c fs) s1) _
+      (λ args s2 h2 stands2 items each sized. h2 stands2 (item ∷ items) (ap₂ (λ (a : Arg) (rest : List Arg). a ∷ rest) is each) (ap suc sized))
+      h1))
       h)
 
-  own_follows : (ts : FlowTrees) → ArgumentsFollow ts → (found : Option Member) (p q : ℕ) (stack : List Item) (s : Store)
-      → CodeFrom p (own_code found (count_of_flows ts) (flows_code env ts)) q → Stands K scope slots s
-      → Comes K (I q stack) (call_of_member found (λ m. persistent_call c c.object m (at_context c (trees_pass ts))) s) → X p stack s
-  own_follows ts arguments None p q stack s from stands h = perform p stack s instruction.Wait from.0 (h stands.low (λ _. stands.within))
-  own_follows ts arguments (Some m) p q stack s from stands h =
-      perform p stack s instruction.Own from.0 (object_follows ts arguments (Some m) c.object (p + 1) q stack s from.1 stands h)
-
-  regular_follows : (ts : FlowTrees) → ArgumentsFollow ts → (found : Option Member) → ((m : Member) → found ≡ Some m → MemberAt K.setting (regular_env ds m) m) → MemberTakes found (count_of_flows ts)
-      → (p q : ℕ) (stack : List Item) (s : Store) → CodeFrom p (regular_code found (count_of_flows ts) (flows_code env ts)) q → Stands K scope slots s
-      → Comes K (I q stack) (call_of_member found (λ m. regular_call c m (at_context c (trees_pass ts))) s) → X p stack s
-  regular_follows ts arguments None at takes p q stack s from stands h = perform p stack s instruction.Wait from.0 (h stands.low (λ _. stands.within))
-  regular_follows ts arguments (Some m) at takes p q stack s from stands h =
-      let first = from_parts K.setting.image.code (flows_code env ts) _ p q from in
-      arguments p first.0 stack s first.1 stands
-      (goes_on K (I q stack) _ (all_of (at_context c (trees_pass ts)) s) _ (λ args s1 h1 stands1 items is sized.
-      regular_called m (at m refl) first.0 q (count_of_flows ts) stack s1 items args takes first.2 stands1 is sized h1)
-      h)
-
-  -- the word of the receiver, which has to be an object's
-  bound_follows : (b : Bool) (ts : FlowTrees) → ArgumentsFollow ts → (found : Option Member) (line : ℕ) (object : ℤ) (p q : ℕ) (stack under : List Item) (s : Store)
-      → CodeFrom (p + 1) (object_code found (count_of_flows ts) (flows_code env ts)) q → Stands K scope slots s
-      → Comes K (I q stack) (((if b then trap Unbound line else pure object) >>= (λ object. call_of_member found (λ m. persistent_call c object m (at_context c (trees_pass ts))))) s)
-      → To K scope slots (if b then steps.traps Unbound line (running K p under slots s) else onward (running K p under slots s) (OfValue (int_value object) ∷ stack))
-  bound_follows true ts arguments found line object p q stack under s from stands h = h stands.low (λ _. stands.within)
-  bound_follows false ts arguments found line object p q stack under s from stands h = object_follows ts arguments found object (p + 1) q stack s from stands h
-
-  class_same : (found : Option Found) → class_of_location c (option_map (location_at slots) found) ≡ class_found env found
-  class_same None = refl
-  class_same (Some found) = refl
-
-  on_class : (b : Bool) (ts : FlowTrees) → ArgumentsFollow ts → (found : Option Found) (class : Class) (line : ℕ) (member : List ℕ) → class.is_regular ≡ b → class_found env found ≡ Some class
-      → (class.is_regular ≡ true → MemberTakes (member_named member class.members) (count_of_flows ts)) → (p q : ℕ) (stack : List Item) (s : Store)
-      → CodeFrom p (if b then regular_code (member_named member class.members) (count_of_flows ts) (flows_code env ts)
-      else (read_code found ++ instruction.Receiver line ∷ object_code (member_named member class.members) (count_of_flows ts) (flows_code env ts))) q
-      → Stands K scope slots s
-      → Comes K (I q stack) ((if b then call_of_member (member_named member class.members) (λ m. regular_call c m (at_context c (trees_pass ts)))
-      else (words_of_location (option_map (location_at slots) found) >>= (λ value. bound line (first_word value.words) >>= (λ object.
-      call_of_member (member_named member class.members) (λ m. persistent_call c object m (at_context c (trees_pass ts))))))) s)
-      → X p stack s
-  on_class true ts arguments found class line member regular is takes p q stack s from stands h =
-      let name = found_is_named env found class is in
-      regular_follows ts arguments (member_named member class.members) (λ m e. has.regular name.0 member class m name.1 regular e) (takes regular) p q stack s from stands h
-  on_class false ts arguments found class line member regular is takes p q stack s from stands h =
-      let first = from_parts K.setting.image.code (read_code found) _ p q from in
-      read_follows K scope slots p first.0 stack s found first.1 stands
-      (goes_on K (I q stack) (ValueAt K scope slots first.0 stack) (words_of_location (option_map (location_at slots) found) s) _ (λ value s1 h1 stands1.
-      perform first.0 (OfValue value ∷ stack) s1 (instruction.Receiver line) first.2.0
-      (bound_follows (int_eq (first_word value.words) (pos 0)) ts arguments (member_named member class.members) line (first_word value.words) first.0 q stack (OfValue value ∷ stack) s1 first.2.1 stands1 h1))
-      h)
-
-  on_target : (ts : FlowTrees) → ArgumentsFollow ts → (found : Option Found) (class : Option Class) (line : ℕ) (member : List ℕ) → class_found env found ≡ class
-      → ClassTakes class member (count_of_flows ts) → (p q : ℕ) (stack : List Item) (s : Store)
-      → CodeFrom p (target_code line found class member (count_of_flows ts) (flows_code env ts)) q → Stands K scope slots s
-      → Comes K (I q stack) (call_on c line (option_map (location_at slots) found) class member (at_context c (trees_pass ts)) s) → X p stack s
-  on_target ts arguments found None line member is takes p q stack s from stands h = perform p stack s instruction.Wait from.0 (h stands.low (λ _. stands.within))
-  on_target ts arguments found (Some class) line member is takes p q stack s from stands h =
-      on_class class.is_regular ts arguments found class line member refl is takes p q stack s from stands h
-
-  -- ---- the forms
-
-  mutual
-    pub flow_follows : (t : FlowTree) (p q : ℕ) (stack : List Item) (s : Store) → CodeFrom p (flow_code env t) q → FlowFits env t → Stands K scope slots s
-        → Comes K (I q stack) (tree_passes t c s) → X p stack s
-    flow_follows (f.Value t) p q stack s from fits stands h =
-        passed_follows (whole_slot env (tree_name t)) t p q stack s from fits stands (subst (λ v. Comes K (I q stack) (held_or v (tree_value t c) s)) (whole_same s (tree_name t) stands) h)
-    flow_follows (f.CallOnOwn member ts) p q stack s from fits stands h =
-        own_follows ts (λ p q stack s from. flows_follow ts p q stack s from fits) (member_named member.text members) p q stack s from stands h
-    flow_follows (f.CallOnTarget line target member ts) p q stack s from fits stands h =
-        on_target ts (λ p q stack s from. flows_follow ts p q stack s from fits.1) (found_at env target) (class_found env (found_at env target)) line member.text refl fits.0 p q stack s from stands
-        (subst (λ class. Comes K (I q stack) (call_on c line (option_map (location_at slots) (found_at env target)) class member.text (at_context c (trees_pass ts)) s)) (class_same (found_at env target))
-        (subst (λ l. Comes K (I q stack) (call_on c line l (class_of_location c l) member.text (at_context c (trees_pass ts)) s)) (located K callees env slots s target stands) h))
-
-    pub flows_follow : (ts : FlowTrees) (p q : ℕ) (stack : List Item) (s : Store) → CodeFrom p (flows_code env ts) q → FlowsFit env ts → Stands K scope slots s
-        → Comes K (Pushed q stack (count_of_flows ts)) (all_of (at_context c (trees_pass ts)) s) → X p stack s
-    flows_follow f.NoFlow p q stack s from fits stands h = moved K scope slots stack s from (h stands [] refl refl)
-    flows_follow (f.MoreFlows t ts) p q stack s from fits stands h =
-        let first = from_parts K.setting.image.code (flow_code env t) _ p q from in
-        flow_follows t p first.0 stack s first.1 fits.0 stands
-        (goes_on K (Pushed q stack (suc (count_of_flows ts))) (I first.0 stack) (tree_passes t c s) _ (λ a s1 h1 stands1 item is.
-        flows_follow ts first.0 q (item ∷ stack) s1 first.2 fits.1 stands1
-        (goes_on K (Pushed q stack (suc (count_of_flows ts))) (Pushed q (item ∷ stack) (count_of_flows ts)) (all_of (at_context c (trees_pass ts)) s1) _
-        (λ args s2 h2 stands2 items each sized. h2 stands2 (item ∷ items) (ap₂ (λ (a : Arg) (rest : List Arg). a ∷ rest) is each) (ap suc sized))
-        h1))
+  module _ (code : Code) (fs : List Passes) (count : ℕ) (arguments : ArgumentsFollow code fs count) where
+    object_follows : (found : Option Member) (object : ℤ) (p q : ℕ) (stack : List Item) (s : Store)
+        → CodeFrom p (object_code found count code) q → Stands K scope slots s
+        → Comes K (R q stack) (call_of_member found (λ m. persistent_call c object m (at_context c fs)) s) → X p (OfValue (int_value object) ∷ stack) s
+    object_follows None object p q stack s from stands h = perform p _ s instruction.Wait from.0 (h stands.low (λ _. stands.within))
+    object_follows (Some m) object p q stack s from stands h =
+        let first = from_parts K.setting.image.code code _ p q from in
+        arguments p first.0 (OfValue (int_value object) ∷ stack) s first.1 stands
+        (goes_on K (R q stack) _ (all_of (at_context c fs) s) _ (λ args s1 h1 stands1 items is sized.
+        object_called m object first.0 q count stack s1 items args first.2 stands1 is sized h1)
         h)
+
+    own_follows : (found : Option Member) (p q : ℕ) (stack : List Item) (s : Store)
+        → CodeFrom p (own_code found count code) q → Stands K scope slots s
+        → Comes K (R q stack) (call_of_member found (λ m. persistent_call c c.object m (at_context c fs)) s) → X p stack s
+    own_follows None p q stack s from stands h = perform p stack s instruction.Wait from.0 (h stands.low (λ _. stands.within))
+    own_follows (Some m) p q stack s from stands h =
+        perform p stack s instruction.Own from.0 (object_follows (Some m) c.object (p + 1) q stack s from.1 stands h)
+
+    regular_follows : (found : Option Member) → ((m : Member) → found ≡ Some m → MemberAt K.setting (regular_env ds m) m) → MemberTakes found count
+        → (p q : ℕ) (stack : List Item) (s : Store) → CodeFrom p (regular_code found count code) q → Stands K scope slots s
+        → Comes K (R q stack) (call_of_member found (λ m. regular_call c m (at_context c fs)) s) → X p stack s
+    regular_follows None at takes p q stack s from stands h = perform p stack s instruction.Wait from.0 (h stands.low (λ _. stands.within))
+    regular_follows (Some m) at takes p q stack s from stands h =
+        let first = from_parts K.setting.image.code code _ p q from in
+        arguments p first.0 stack s first.1 stands
+        (goes_on K (R q stack) _ (all_of (at_context c fs) s) _ (λ args s1 h1 stands1 items is sized.
+        regular_called m (at m refl) first.0 q count stack s1 items args takes first.2 stands1 is sized h1)
+        h)
+
+    -- the word of the receiver, which has to be an object's
+    bound_follows : (b : Bool) (found : Option Member) (line : ℕ) (object : ℤ) (p q : ℕ) (stack under : List Item) (s : Store)
+        → CodeFrom (p + 1) (object_code found count code) q → Stands K scope slots s
+        → Comes K (R q stack) (((if b then trap Unbound line else pure object) >>= (λ object. call_of_member found (λ m. persistent_call c object m (at_context c fs)))) s)
+        → To K scope slots (if b then steps.traps Unbound line (running K p under slots s) else onward (running K p under slots s) (OfValue (int_value object) ∷ stack))
+    bound_follows true found line object p q stack under s from stands h = h stands.low (λ _. stands.within)
+    bound_follows false found line object p q stack under s from stands h = object_follows found object (p + 1) q stack s from stands h
+
+    class_same : (found : Option Found) → class_of_location c (option_map (location_at slots) found) ≡ class_found env found
+    class_same None = refl
+    class_same (Some found) = refl
+
+    on_class : (b : Bool) (found : Option Found) (class : Class) (line : ℕ) (member : List ℕ) → class.is_regular ≡ b → class_found env found ≡ Some class
+        → (class.is_regular ≡ true → MemberTakes (member_named member class.members) count) → (p q : ℕ) (stack : List Item) (s : Store)
+        → CodeFrom p (if b then regular_code (member_named member class.members) count code
+        else (read_code found ++ instruction.Receiver line ∷ object_code (member_named member class.members) count code)) q
+        → Stands K scope slots s
+        → Comes K (R q stack) ((if b then call_of_member (member_named member class.members) (λ m. regular_call c m (at_context c fs))
+        else (words_of_location (option_map (location_at slots) found) >>= (λ value. bound line (first_word value.words) >>= (λ object.
+        call_of_member (member_named member class.members) (λ m. persistent_call c object m (at_context c fs)))))) s)
+        → X p stack s
+    on_class true found class line member regular is takes p q stack s from stands h =
+        let name = found_is_named env found class is in
+        regular_follows (member_named member class.members) (λ m e. has.regular name.0 member class m name.1 regular e) (takes regular) p q stack s from stands h
+    on_class false found class line member regular is takes p q stack s from stands h =
+        let first = from_parts K.setting.image.code (read_code found) _ p q from in
+        read_follows K scope slots p first.0 stack s found first.1 stands
+        (goes_on K (R q stack) (ValueAt K scope slots first.0 stack) (words_of_location (option_map (location_at slots) found) s) _ (λ value s1 h1 stands1.
+        perform first.0 (OfValue value ∷ stack) s1 (instruction.Receiver line) first.2.0
+        (bound_follows (int_eq (first_word value.words) (pos 0)) (member_named member class.members) line (first_word value.words) first.0 q stack (OfValue value ∷ stack) s1 first.2.1 stands1 h1))
+        h)
+
+    on_target : (found : Option Found) (class : Option Class) (line : ℕ) (member : List ℕ) → class_found env found ≡ class
+        → ClassTakes class member count → (p q : ℕ) (stack : List Item) (s : Store)
+        → CodeFrom p (target_code line found class member count code) q → Stands K scope slots s
+        → Comes K (R q stack) (call_on c line (option_map (location_at slots) found) class member (at_context c fs) s) → X p stack s
+    on_target found None line member is takes p q stack s from stands h = perform p stack s instruction.Wait from.0 (h stands.low (λ _. stands.within))
+    on_target found (Some class) line member is takes p q stack s from stands h =
+        on_class class.is_regular found class line member refl is takes p q stack s from stands h
+
+    -- ---- whole calls
+
+    pub own_call_follows : (member : Name) → ResultFollows (own_code (member_named member.text members) count code) (call_on_own member fs)
+    own_call_follows member p q stack s from stands h = own_follows (member_named member.text members) p q stack s from stands h
+
+    pub target_call_follows : (line : ℕ) (t : Target) (member : Name) → ClassTakes (class_found env (found_at env t)) member.text count
+        → ResultFollows (target_code line (found_at env t) (class_found env (found_at env t)) member.text count code) (call_on_place line t member fs)
+    target_call_follows line t member takes p q stack s from stands h =
+        on_target (found_at env t) (class_found env (found_at env t)) line member.text refl takes p q stack s from stands
+        (subst (λ class. Comes K (R q stack) (call_on c line (option_map (location_at slots) (found_at env t)) class member.text (at_context c fs) s)) (class_same (found_at env t))
+        (subst (λ l. Comes K (R q stack) (call_on c line l (class_of_location c l) member.text (at_context c fs) s)) (located K callees env slots s t stands) h))

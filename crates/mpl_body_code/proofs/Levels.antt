@@ -28,14 +28,15 @@ use Rattle.mpl_mean.specs.Meaning.Layout.{Class, Function, Member, Part}
 use Rattle.mpl_mean.specs.Meaning.PlaceMeaning.{is_bool}
 use Rattle.mpl_mean.specs.Meaning.StatementMeaning.{Does, Effect}
 use Rattle.mpl_mean.specs.Meaning.Store.{Store, Outcome, Goes, Returns, Ends, and_then, in_turn}
-use Rattle.mpl_plain.specs.StatementTrees.{StatementTrees, statement_trees, trees_do, trees_run}
+use Rattle.mpl_mean.specs.Plain.Stmt.{Stmts, stmts_from, stmts_of}
+use Rattle.mpl_plain.specs.StmtMeaning.{trees_do, trees_run}
 use Rattle.mpl_mean.proofs.MoreReplies.ComesBack.{after_plain, after_regular}
-use Rattle.mpl_plain.proofs.StatementsAsTrees.{run_same}
-use Rattle.mpl_body_code.specs.Codes.{finish_of, function_env, main_env, member_env, regular_env, statements_code}
+use Rattle.mpl_plain.proofs.StmtsSame.{run_same}
+use Rattle.mpl_mean.specs.Plain.Scopes.{Env, Shape, formal_shape, function_env, member_env, main_env, regular_env}
+use Rattle.mpl_body_code.specs.Codes.{finish_of, statements_code}
 use Rattle.mpl_body_code.specs.Images.{ComesTo, HasCode, IsBodyCode, IsFunctionCode, IsMemberCode, main_machine, member_machine}
 use Rattle.mpl_body_code.specs.Machine.{Caller, Frame, Item, Machine, Next, OfPlain, OfRegular, Setting, at_end, at_stop, ended, finished, item_of, resumed, returned, words_item, yield_at}
 use Rattle.mpl_body_code.specs.Machine as machine
-use Rattle.mpl_body_code.specs.Scopes.{Env, Shape, formal_shape}
 use Rattle.mpl_body_code.specs.Steps.{begun, body_begun, exec, followed, spends, stops, waiting}
 use Rattle.mpl_body_code.specs.declared.instruction.Finish.{Finish}
 use Rattle.mpl_body_code.specs.declared.instruction.Finish.TheVariants as finish
@@ -75,7 +76,7 @@ stop_same (Typed at type) line e given = refl
 
 -- what a body does comes to what its code comes to, with the end of the code
 body_follows : (K : Run) (ds : List Declaration) (members : List Member) (parts : List Part) (callees : Callees) → HasCode K.setting ds → (base : ℕ) → Below K.setting K.yield ds K.answered callees base
-    → (scope : List Shape) (trees : StatementTrees) (entry : ℕ) (slots : List Arg) (s : Store) → base ≤ K.low
+    → (scope : List Shape) (trees : Stmts) (entry : ℕ) (slots : List Arg) (s : Store) → base ≤ K.low
     → IsBodyCode K.setting (record { declarations = ds; members = members; parts = parts; scope = scope }) trees entry → Stands K scope slots s
     → Comes K (λ u t. K.low ≤ t.turns → t.turns ≤ K.setting.turns → Leads K.setting K.yield (finished K.around.callers (body_at K.answered K.around t) t.turns))
     (in_turn (map (λ (does : Does). does (context_of K callees (record { declarations = ds; members = members; parts = parts; scope = scope }))) (trees_do trees)) s)
@@ -115,7 +116,7 @@ module _ (S : Setting) (y : Yield) (ds : List Declaration) (has : HasCode S ds) 
       let c = context_of run callees (function_env ds f) in
       Comes run (λ words t. t.variables ≡ s.variables → low ≤ t.turns → t.turns ≤ S.turns → Reaches S y (running run (place + 1) (words_item words (is_bool f.result) ∷ below) slots t))
       (after_plain f s (and_then {A = Unit {0}} {B = Unit {0}} (if b then Goes tt t else Ends end.Spent t)
-      (λ _. in_turn (map (λ (does : Does). does (record c { object = pos 0; number = 0 })) (trees_do (statement_trees f.body.statements))))))
+      (λ _. in_turn (map (λ (does : Does). does (record c { object = pos 0; number = 0 })) (trees_do (stmts_of f.body))))))
       → let x = running run place stack slots (record s { turns = s.turns + 1 }) in
       Leads S y (if b then machine.Goes (record x { frame = begun r.entry (map Know arguments); callers = OfPlain (waiting x below) r.line r.is_bool ∷ x.callers }) else stops end.Spent x)
   plain_starts answered base callees under low above w f r is arguments sized place stack below slots s least within false turns h =
@@ -127,10 +128,10 @@ module _ (S : Setting) (y : Yield) (ds : List Declaration) (has : HasCode S ds) 
       let frame : Frame = record { place = place + 1; stack = below; slots = slots; object = w.object; number = w.number } in
       let inner : Run = run_of S y answered later (record { object = pos 0; number = 0; finish = w.finish; callers = OfPlain frame r.line r.is_bool ∷ w.callers }) in
       let t : Store = record s { variables = formals_holding f.formals arguments; turns = s.turns + 1 } in
-      body_follows inner ds [] [] callees has (base + 1) under (map formal_shape f.formals) (statement_trees f.body.statements) r.entry (map Know arguments) t (omega arith) is.body
+      body_follows inner ds [] [] callees has (base + 1) under (map formal_shape f.formals) (stmts_of f.body) r.entry (map Know arguments) t (omega arith) is.body
       (record { agree = formals_hold f.formals arguments; sized = formals_sized f.formals arguments sized; low = omega arith; within = omega arith })
       (plain_back answered low w f r frame place below slots s later is refl (omega arith)
-      (in_turn (map (λ (does : Does). does (context_of inner callees (function_env ds f))) (trees_do (statement_trees f.body.statements))) t) h)
+      (in_turn (map (λ (does : Does). does (context_of inner callees (function_env ds f))) (trees_do (stmts_of f.body))) t) h)
 
   -- ---- regular members
 
@@ -177,7 +178,7 @@ module _ (S : Setting) (y : Yield) (ds : List Declaration) (has : HasCode S ds) 
       let c = context_of (run_of S y false low w) callees (regular_env ds m) in
       Comes run (λ a t. t.variables ≡ s.variables → low ≤ t.turns → t.turns ≤ S.turns → Reaches S y (running run (place + 1) (item_of a ∷ below) slots t))
       (after_regular m s (and_then {A = Unit {0}} {B = Unit {0}} (if b then Goes tt t else Ends end.Spent t)
-      (λ _. in_turn (map (λ (does : Does). does (record c { object = pos 0; number = 0 })) (trees_do (statement_trees m.body.statements))))))
+      (λ _. in_turn (map (λ (does : Does). does (record c { object = pos 0; number = 0 })) (trees_do (stmts_of m.body))))))
       → let x = running run place stack slots (record s { turns = s.turns + 1 }) in
       Leads S y (if b then machine.Goes (record x { frame = begun r.entry (map Know arguments); body = body_begun r.finish; callers = OfRegular (waiting x below) x.body ∷ x.callers }) else stops end.Spent x)
   regular_starts answered base callees under low above w m r is arguments sized place stack below slots s least within false turns h =
@@ -189,10 +190,10 @@ module _ (S : Setting) (y : Yield) (ds : List Declaration) (has : HasCode S ds) 
       let frame : Frame = record { place = place + 1; stack = below; slots = slots; object = w.object; number = w.number } in
       let inner : Run = run_of S y false later (record { object = pos 0; number = 0; finish = r.finish; callers = OfRegular frame (body_at answered w s) ∷ w.callers }) in
       let t : Store = store_with (formals_holding m.formals arguments) [] [] (s.turns + 1) in
-      body_follows inner ds [] [] callees has (base + 1) under (map formal_shape m.formals) (statement_trees m.body.statements) r.entry (map Know arguments) t (omega arith) is.body
+      body_follows inner ds [] [] callees has (base + 1) under (map formal_shape m.formals) (stmts_of m.body) r.entry (map Know arguments) t (omega arith) is.body
       (record { agree = formals_hold m.formals arguments; sized = formals_sized m.formals arguments sized; low = omega arith; within = omega arith })
       (regular_back answered low w m r frame place below slots s later is refl (omega arith)
-      (in_turn (map (λ (does : Does). does (context_of inner callees (regular_env ds m))) (trees_do (statement_trees m.body.statements))) t) h)
+      (in_turn (map (λ (does : Does). does (context_of inner callees (regular_env ds m))) (trees_do (stmts_of m.body))) t) h)
 
   -- ---- so many levels deep
 
@@ -236,7 +237,7 @@ module _ (S : Setting) (y : Yield) (ds : List Declaration) (has : HasCode S ds) 
   abbrev outermost : ℤ → ℕ → Finish → Run
   outermost object number finish = run_of S y true 0 (record { object = object; number = number; finish = finish; callers = [] })
 
-  first_starts : (object : ℤ) (number : ℕ) (finish : Finish) (members : List Member) (parts : List Part) (scope : List Shape) (trees : StatementTrees) (entry : ℕ)
+  first_starts : (object : ℤ) (number : ℕ) (finish : Finish) (members : List Member) (parts : List Part) (scope : List Shape) (trees : Stmts) (entry : ℕ)
       (slots : List Arg) (s : Store) → IsBodyCode S (record { declarations = ds; members = members; parts = parts; scope = scope }) trees entry
       → s.variables ≡ variables_of scope slots → length scope ≡ length slots → s.turns ≡ 0
       → Comes (outermost object number finish) (λ u t. Leads S y (finished [] (body_at true (outermost object number finish).around t) t.turns))
@@ -289,19 +290,19 @@ comes_to S y x h = by_next (spends S x machine.Goes) refl h where
   by_next (machine.Stops z) is h = record { steps = 0; comes = ap (followed (exec 0 S)) is ∙ ap Some h }
 
 pub main_comes : (S : Setting) (p : Program) (start : BodyStart) (entry : ℕ) → start.member ≡ None → HasCode S p.declarations
-    → IsBodyCode S (main_env p.declarations) (statement_trees (main_statements p.declarations)) entry
+    → IsBodyCode S (main_env p.declarations) (stmts_from (main_statements p.declarations)) entry
     → ComesTo S (main_machine start entry) (yield_of p start S.replies S.turns)
 main_comes S p start entry none has code =
     let c = context_of (run_of S (yield_of p start S.replies S.turns) true 0 (record { object = pos 0; number = start.number; finish = finish.Main; callers = [] })) (callees_at S.turns p.declarations S.turns S.replies) (main_env p.declarations) in
     let s : Store = store_with [] start.state start.input 0 in
     let statements = main_statements p.declarations in
-    let o = trees_run c (statement_trees statements) s in
+    let o = trees_run c (stmts_from statements) s in
     let is : main_yield (run c statements s) ≡ main_yield o = ap (λ (effect : Effect). main_yield (effect s)) (run_same c statements) in
     let whole : yield_of p start S.replies S.turns ≡ main_yield o = ap (λ m. body_of
     (context_with p.declarations S.turns S.replies (callees_at S.turns p.declarations S.turns S.replies)) start m) none ∙ is in
     subst (ComesTo S (main_machine start entry)) (sym whole)
     (comes_to S (main_yield o) (main_machine start entry)
-    (first_starts S (main_yield o) p.declarations has (pos 0) start.number finish.Main [] [] [] (statement_trees statements) entry [] s code refl refl refl (main_ends S start o)))
+    (first_starts S (main_yield o) p.declarations has (pos 0) start.number finish.Main [] [] [] (stmts_from statements) entry [] s code refl refl refl (main_ends S start o)))
 
 split_length : (ds : List Declaration) (formals : List Formal) (words : List ℤ) → length formals ≡ length (split_words ds formals words)
 split_length ds [] words = refl
@@ -320,11 +321,11 @@ member_comes S p start id found code one two has stands =
     let arguments = split_words ds m.formals start.args in
     let c = context_of (run_of S (yield_of p start S.replies S.turns) true 0 (record { object = start.object; number = start.number; finish = code.finish; callers = [] })) (callees_at S.turns ds S.turns S.replies) env in
     let s : Store = store_with (formals_holding m.formals arguments) start.state start.input 0 in
-    let o = trees_run c (statement_trees m.body.statements) s in
+    let o = trees_run c (stmts_of m.body) s in
     let whole : yield_of p start S.replies S.turns ≡ member_yield m o = is ∙ ap (λ (effect : Effect). member_yield m (effect s)) (run_same c m.body.statements) in
     subst (ComesTo S (member_machine ds start m code)) (sym whole)
     (comes_to S (member_yield m o) (member_machine ds start m code)
-    (first_starts S (member_yield m o) ds has start.object start.number code.finish env.members env.parts env.scope (statement_trees m.body.statements) code.entry (map Know arguments) s stands.body
+    (first_starts S (member_yield m o) ds has start.object start.number code.finish env.members env.parts env.scope (stmts_of m.body) code.entry (map Know arguments) s stands.body
     (formals_hold m.formals arguments) (formals_sized m.formals arguments (split_length ds m.formals start.args)) refl
     (subst (λ finish. Comes (run_of S (member_yield m o) true 0 (record { object = start.object; number = start.number; finish = finish; callers = [] }))
     (λ u t. Leads S (member_yield m o) (finished [] (body_at true (record { object = start.object; number = start.number; finish = finish; callers = [] }) t) t.turns)) o)

@@ -5,13 +5,10 @@ pub mod Arguments
 pub mod Below
 pub mod Expressions
 pub mod Flows
+pub mod Trees
 pub mod Storing
 pub mod Statements
 pub mod Bodies
 pub mod Levels
 pub mod FallingSteps
-pub mod FittingExpressions
-pub mod FittingFlows
-pub mod FittingStatements
-pub mod FittingBodies
 pub mod RunnableCode

@@ -13,7 +13,7 @@ use Rattle.mpl_mean.specs.Meaning.PlaceMeaning.{Location, field_of_location, loc
 use Rattle.mpl_mean.specs.Meaning.Store.{Store, Variable, variable_named}
 use Rattle.std.specs.FinMap.{empty}
 use Rattle.mpl_body_code.specs.Machine.{held}
-use Rattle.mpl_body_code.specs.Scopes.{Env, Found, Shape, Slot, found_at, found_field, found_name, found_part, slot_named}
+use Rattle.mpl_mean.specs.Plain.Scopes.{Env, Found, Shape, Slot, found_at, found_field, found_name, found_part, slot_named}
 use Rattle.mpl_body_code.proofs.Reaching.{Run}
 
 abbrev pub variable_of : Shape → Arg → Variable

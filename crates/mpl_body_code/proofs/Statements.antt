@@ -12,36 +12,39 @@ use Rattle.mpl_value.specs.declared.body.Arg.TheVariants as arg
 use Rattle.mpl_value.specs.declared.body.BodyResult.{BodyResult}
 use Rattle.mpl_value.specs.declared.body.BodyResult.TheVariants as result
 use Rattle.mpl_mean.specs.Meaning.Context.{Callees, Context}
-use Rattle.mpl_mean.specs.Meaning.Layout.{Class, Member, Part}
+use Rattle.mpl_mean.specs.Meaning.Layout.{Class, Member, Part, dimension_of}
 use Rattle.mpl_mean.specs.Meaning.PlaceMeaning.{put}
 use Rattle.mpl_mean.specs.Meaning.StatementMeaning.{Effect, assign_location, created, create_at, give_result, line_of, new_object}
 use Rattle.mpl_mean.specs.Meaning.Store.{Store, Step, ◌>>=◌, ◌>>◌, all_of, force, hold, holding, in_scope, printed, spend}
 use Rattle.mpl_mean.specs.Meaning.Values.{Value, int_value, word_of}
-use Rattle.mpl_plain.specs.ExpressionTrees.{ExpressionTree, tree_value}
-use Rattle.mpl_plain.specs.FlowTrees.{FlowTree, tree_passes}
-use Rattle.mpl_plain.specs.StatementTrees.{DeclaratorTree, Zeros, Holds, StatementTree, StatementTrees, assign_element, declarator_does, tree_does, tree_loop, tree_returns, trees_do}
-use Rattle.mpl_plain.specs.StatementTrees as t
-use Rattle.mpl_body_code.specs.Arity.{AnyFits, EachFits, ExpressionFits, FlowFits}
-use Rattle.mpl_body_code.specs.Codes.{Code, From, behind, create_code, create_in, declares, declares_all, element_code, expression_code, expression_codes, flow_code, into_code, into_slot, new_code, return_code, scope_code}
+use Rattle.mpl_mean.specs.Plain.Expr.{Expr}
+use Rattle.mpl_mean.specs.Plain.Stmt.{NewLocal, Stmt, Stmts}
+use Rattle.mpl_mean.specs.Plain.Stmt as t
+use Rattle.mpl_plain.specs.ExprMeaning.{tree_passes, tree_value}
+use Rattle.mpl_plain.specs.StmtMeaning.{assign_element, tree_returns}
+use Rattle.mpl_plain.specs.Arity.{AnyFits, EachFits, ExprFits}
+use Rattle.mpl_mean.specs.Plain.Scopes.{Env, Found, Shape, Slot, behind, class_found, declares, declares_all, found_at}
+use Rattle.mpl_body_code.specs.Codes.{Code, From, create_code, create_in, element_code, expression_code, expression_codes, flow_code, into_code, into_slot, new_code, return_code, scope_code}
 use Rattle.mpl_body_code.specs.Images.{HasCode}
 use Rattle.mpl_body_code.specs.Machine.{Item, OfValue, OfTrap, NotKnown, arg_of, held, put_held}
-use Rattle.mpl_body_code.specs.Scopes.{Env, Found, Shape, Slot, base_of_slot, class_found, found_at, spot_of}
+use Rattle.mpl_body_code.specs.Scopes.{base_of_slot, spot_of}
 use Rattle.mpl_body_code.specs.Steps.{gives, onward, performs, puts, values_of}
 use Rattle.mpl_body_code.specs.declared.instruction.Instruction.{Instruction}
 use Rattle.mpl_body_code.specs.declared.instruction.Instruction.TheVariants as instruction
 use Rattle.mpl_body_code.proofs.Arguments.{below_pushed, known_length, pushed, top_pushed, values_known}
 use Rattle.mpl_body_code.proofs.Below.{Below}
-use Rattle.mpl_body_code.proofs.Expressions.{ValueAt, base_follows, expression_follows, forced_follows, indexed_follows}
-use Rattle.mpl_body_code.proofs.Flows.{ItemAt, flow_follows, spends_follow}
+use Rattle.mpl_body_code.proofs.Expressions.{ValueAt, base_follows, forced_follows, indexed_follows}
+use Rattle.mpl_body_code.proofs.Flows.{ItemAt, spends_follow}
 use Rattle.mpl_body_code.proofs.Reaching.{Comes, Leads, Reaches, Run, comes_map, comes_then, from_parts, goes_on, performing, running}
 use Rattle.mpl_body_code.proofs.Scoped.{Stands, context_of, location_at, variable_at}
+use Rattle.mpl_body_code.proofs.Trees.{tree_follows}
 use Rattle.mpl_body_code.proofs.Storing.{IsSlot, held_stands, oldest_comes, scope_left, slot_is}
 
 -- ---- what surrounds later statements
 
-abbrev pub behind_all : StatementTrees → Env → Env
-behind_all t.NoStatement env = env
-behind_all (t.MoreStatements tree trees) env = behind_all trees (behind tree env)
+abbrev pub behind_all : Stmts → Env → Env
+behind_all t.NoStmt env = env
+behind_all (t.MoreStmts stmt stmts) env = behind_all stmts (behind stmt env)
 
 abbrev pub Newer : List Shape → List Shape → Type 0
 Newer scope after = (newer : List Shape) × (after ≡ newer ++ scope)
@@ -49,33 +52,29 @@ Newer scope after = (newer : List Shape) × (after ≡ newer ++ scope)
 newer_than : {a b d : List Shape} → Newer a b → Newer b d → Newer a d
 newer_than {a} h k = (k.0 ++ h.0, k.1 ∙ ap (λ rest. k.0 ++ rest) h.1 ∙ sym (append_assoc k.0 h.0 a))
 
-declared_newer : (type : TypeName) (d : DeclaratorTree) (env : Env) → Newer env.scope (declares type d env).scope
-declared_newer type (Zeros name dimension) env = (record { name = name; type = type; dimension = dimension } ∷ [], refl)
-declared_newer type (Holds name value) env = (record { name = name; type = type; dimension = None } ∷ [], refl)
-
-all_newer : (type : TypeName) (ds : List DeclaratorTree) (env : Env) → Newer env.scope (declares_all type ds env).scope
+all_newer : (type : TypeName) (news : List NewLocal) (env : Env) → Newer env.scope (declares_all type news env).scope
 all_newer type [] env = ([], refl)
-all_newer type (d ∷ ds) env = newer_than (declared_newer type d env) (all_newer type ds (declares type d env))
+all_newer type (new ∷ news) env =
+    newer_than (record { name = new.name.text; type = type; dimension = dimension_of new.dimension } ∷ [], refl) (all_newer type news (declares type new env))
 
-pub behind_newer : (t : StatementTree) (env : Env) → Newer env.scope (behind t env).scope
+pub behind_newer : (stmt : Stmt) (env : Env) → Newer env.scope (behind stmt env).scope
 behind_newer t.Nothing env = ([], refl)
-behind_newer (t.Within statements) env = ([], refl)
-behind_newer (t.Declare type declarators) env = all_newer type declarators env
-behind_newer (t.AssignWhole target value) env = ([], refl)
-behind_newer (t.AssignElement line target index value) env = ([], refl)
-behind_newer (t.CallAlone call) env = ([], refl)
-behind_newer (t.Create target) env = ([], refl)
+behind_newer (t.Within stmts) env = ([], refl)
+behind_newer (t.Locals type news) env = all_newer type news env
+behind_newer (t.Assigns at place value) env = ([], refl)
+behind_newer (t.Calls call) env = ([], refl)
+behind_newer (t.Creates at target) env = ([], refl)
 behind_newer (t.When test then_part) env = ([], refl)
-behind_newer (t.Branch test then_part else_part) env = ([], refl)
-behind_newer (t.While test body) env = ([], refl)
-behind_newer (t.For first test step body) env = ([], refl)
-behind_newer (t.Print arguments) env = ([], refl)
-behind_newer (t.Rtf line value) env = ([], refl)
-behind_newer (t.Return value) env = ([], refl)
+behind_newer (t.Branches test then_part else_part) env = ([], refl)
+behind_newer (t.Repeats test body) env = ([], refl)
+behind_newer (t.Loops first test step body) env = ([], refl)
+behind_newer (t.Prints at arguments) env = ([], refl)
+behind_newer (t.Gives at value) env = ([], refl)
+behind_newer (t.Returns at value) env = ([], refl)
 
-pub behind_all_newer : (ts : StatementTrees) (env : Env) → Newer env.scope (behind_all ts env).scope
-behind_all_newer t.NoStatement env = ([], refl)
-behind_all_newer (t.MoreStatements tree trees) env = newer_than (behind_newer tree env) (behind_all_newer trees (behind tree env))
+pub behind_all_newer : (stmts : Stmts) (env : Env) → Newer env.scope (behind_all stmts env).scope
+behind_all_newer t.NoStmt env = ([], refl)
+behind_all_newer (t.MoreStmts stmt stmts) env = newer_than (behind_newer stmt env) (behind_all_newer stmts (behind stmt env))
 
 module _ (K : Run) (ds : List Declaration) (members : List Member) (parts : List Part) (callees : Callees) (has : HasCode K.setting ds)
     (base : ℕ) (below : Below K.setting K.yield ds K.answered callees base) where
@@ -108,42 +107,36 @@ module _ (K : Run) (ds : List Declaration) (members : List Member) (parts : List
 
   -- ---- the environments of later statements are of the same body
 
-  declared_env : (type : TypeName) (d : DeclaratorTree) (scope : List Shape) → declares type d (env scope) ≡ env ((declares type d (env scope)).scope)
-  declared_env type (Zeros name dimension) scope = refl
-  declared_env type (Holds name value) scope = refl
-
-  all_env : (type : TypeName) (declarators : List DeclaratorTree) (scope : List Shape) → declares_all type declarators (env scope) ≡ env ((declares_all type declarators (env scope)).scope)
+  all_env : (type : TypeName) (news : List NewLocal) (scope : List Shape) → declares_all type news (env scope) ≡ env ((declares_all type news (env scope)).scope)
   all_env type [] scope = refl
-  all_env type (Zeros name dimension ∷ rest) scope = all_env type rest (record { name = name; type = type; dimension = dimension } ∷ scope)
-  all_env type (Holds name value ∷ rest) scope = all_env type rest (record { name = name; type = type; dimension = None } ∷ scope)
+  all_env type (new ∷ news) scope = all_env type news (record { name = new.name.text; type = type; dimension = dimension_of new.dimension } ∷ scope)
 
-  pub behind_env : (t : StatementTree) (scope : List Shape) → behind t (env scope) ≡ env ((behind t (env scope)).scope)
+  pub behind_env : (stmt : Stmt) (scope : List Shape) → behind stmt (env scope) ≡ env ((behind stmt (env scope)).scope)
   behind_env t.Nothing scope = refl
-  behind_env (t.Within statements) scope = refl
-  behind_env (t.Declare type declarators) scope = all_env type declarators scope
-  behind_env (t.AssignWhole target value) scope = refl
-  behind_env (t.AssignElement line target index value) scope = refl
-  behind_env (t.CallAlone call) scope = refl
-  behind_env (t.Create target) scope = refl
+  behind_env (t.Within stmts) scope = refl
+  behind_env (t.Locals type news) scope = all_env type news scope
+  behind_env (t.Assigns at place value) scope = refl
+  behind_env (t.Calls call) scope = refl
+  behind_env (t.Creates at target) scope = refl
   behind_env (t.When test then_part) scope = refl
-  behind_env (t.Branch test then_part else_part) scope = refl
-  behind_env (t.While test body) scope = refl
-  behind_env (t.For first test step body) scope = refl
-  behind_env (t.Print arguments) scope = refl
-  behind_env (t.Rtf line value) scope = refl
-  behind_env (t.Return value) scope = refl
+  behind_env (t.Branches test then_part else_part) scope = refl
+  behind_env (t.Repeats test body) scope = refl
+  behind_env (t.Loops first test step body) scope = refl
+  behind_env (t.Prints at arguments) scope = refl
+  behind_env (t.Gives at value) scope = refl
+  behind_env (t.Returns at value) scope = refl
 
   module _ (low : ℕ) (above : base ≤ low) (scope : List Shape) (slots : List Arg) where
     abbrev pub Ready : Store → Type 0
     Ready = Stands (L low) scope slots
 
-    pub evaluates : (e : ExpressionTree) (p q : ℕ) (stack : List Item) (s : Store) → CodeFrom p (expression_code (env scope) e) q → ExpressionFits ds e → Ready s
+    pub evaluates : (e : Expr) (p q : ℕ) (stack : List Item) (s : Store) → CodeFrom p (expression_code (env scope) e) q → ExprFits (env scope) e → Ready s
         → Comes (L low) (ValueAt (L low) scope slots q stack) (tree_value e c s) → X slots p stack s
-    evaluates = expression_follows (L low) ds members parts callees has base below above scope slots
+    evaluates e p q stack s from fits = (tree_follows (L low) ds members parts callees has base below above scope slots e fits).value p q stack s from
 
-    pub passes_on : (f : FlowTree) (p q : ℕ) (stack : List Item) (s : Store) → CodeFrom p (flow_code (env scope) f) q → FlowFits (env scope) f → Ready s
-        → Comes (L low) (ItemAt (L low) scope slots q stack) (tree_passes f c s) → X slots p stack s
-    passes_on = flow_follows (L low) ds members parts callees has base below above scope slots
+    pub passes_on : (e : Expr) (p q : ℕ) (stack : List Item) (s : Store) → CodeFrom p (flow_code (env scope) e) q → ExprFits (env scope) e → Ready s
+        → Comes (L low) (ItemAt (L low) scope slots q stack) (tree_passes e c s) → X slots p stack s
+    passes_on e p q stack s from fits = (tree_follows (L low) ds members parts callees has base below above scope slots e fits).passes p q stack s from
 
     -- ---- storing
 
@@ -262,8 +255,8 @@ module _ (K : Run) (ds : List Declaration) (members : List Member) (parts : List
     gives_follow line a (result.Known known) p q under stack s e stands h = h stands.low (λ _. stands.within)
     gives_follow line a result.Unknown p q under stack s e stands h = h stands.low (λ _. stands.within)
 
-    pub values_follow : (es : List ExpressionTree) (p q : ℕ) (stack : List Item) (s : Store) → CodeFrom p (expression_codes (env scope) es) q → EachFits ds es → Ready s
-        → Comes (L low) (λ values s1. Ready s1 → length values ≡ length es → X slots q (pushed (map OfValue values) stack) s1) (all_of (map (λ tree. tree_value tree c) es) s)
+    pub values_follow : (es : List Expr) (p q : ℕ) (stack : List Item) (s : Store) → CodeFrom p (expression_codes (env scope) es) q → EachFits (env scope) es → Ready s
+        → Comes (L low) (λ values s1. Ready s1 → length values ≡ length es → X slots q (pushed (map OfValue values) stack) s1) (all_of (map (λ expr. tree_value expr c) es) s)
         → X slots p stack s
     values_follow [] p q stack s from fits stands h = moves slots stack s from (h stands refl)
     values_follow (e ∷ es) p q stack s from fits stands h =
@@ -271,7 +264,7 @@ module _ (K : Run) (ds : List Declaration) (members : List Member) (parts : List
         evaluates e p first.0 stack s first.1 fits.0 stands
         (goes_on (L low) _ (ValueAt (L low) scope slots first.0 stack) (tree_value e c s) _ (λ v s1 h1 stands1.
         values_follow es first.0 q (OfValue v ∷ stack) s1 first.2 fits.1 stands1
-        (goes_on (L low) _ _ (all_of (map (λ tree. tree_value tree c) es) s1) _ (λ values s2 h2 stands2 sized. h2 stands2 (ap suc sized)) h1))
+        (goes_on (L low) _ _ (all_of (map (λ expr. tree_value expr c) es) s1) _ (λ values s2 h2 stands2 sized. h2 stands2 (ap suc sized)) h1))
         h)
 
     pub printed_follows : (values : List Value) (count p q : ℕ) (stack : List Item) (s : Store) → length values ≡ count → CodeFrom p (instruction.Print count ∷ []) q → Ready s
@@ -287,7 +280,7 @@ module _ (K : Run) (ds : List Declaration) (members : List Member) (parts : List
         (subst (λ (vs : List Value). Leads K.setting K.yield (onward (record x { body = record x.body { lines = x.body.lines ++ line_of vs } }) stack)) (sym (values_known values))
         (moves slots stack (record s { lines = s.lines ++ line_of values }) from.1 (h slots (record { agree = stands.agree; sized = stands.sized; low = stands.low; within = stands.within }))))))
 
-    pub returns_follow : (value : Option ExpressionTree) (p q : ℕ) (stack : List Item) (s : Store) → CodeFrom p (return_code (env scope) value) q → AnyFits ds value → Ready s
+    pub returns_follow : (value : Option Expr) (p q : ℕ) (stack : List Item) (s : Store) → CodeFrom p (return_code (env scope) value) q → AnyFits (env scope) value → Ready s
         → Comes (L low) (Done low scope q stack) (tree_returns value c s) → X slots p stack s
     returns_follow None p q stack s from fits stands h = perform slots p stack s instruction.ReturnNothing from.0 (h stands.low stands.within)
     returns_follow (Some e) p q stack s from fits stands h =

@@ -12,7 +12,7 @@ use Rattle.mpl_mean.specs.Meaning.Layout.{Part}
 use Rattle.mpl_mean.specs.Meaning.Store.{Store, Outcome, Goes, Returns, Ends, holding, oldest, only_oldest}
 use Rattle.mpl_mean.proofs.Truth.{some_is}
 use Rattle.mpl_body_code.specs.Machine.{put_held}
-use Rattle.mpl_body_code.specs.Scopes.{Env, Found, Shape, Slot, found_at, found_field, found_name, found_part, slot_named}
+use Rattle.mpl_mean.specs.Plain.Scopes.{Env, Found, Shape, Slot, found_at, found_field, found_name, found_part, slot_named}
 use Rattle.mpl_body_code.proofs.Reaching.{Comes, Run}
 use Rattle.mpl_body_code.proofs.Scoped.{Stands, if_false, if_true, slot_below, variable_of, variables_of}
 

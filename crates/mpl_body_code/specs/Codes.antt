@@ -1,23 +1,23 @@
 -- Which code a body has.
 use Rattle.std.specs.Prelude.{ℕ, suc, ◌≡◌, ◌+◌, Bool, true, false, List, [], ◌∷◌, ◌++◌, length, map, pos, slice_get, Option, Some, None, if◌then◌else◌}
 use Rattle.std.specs.Str.{bytes_eq}
+use Rattle.mpl_plain.specs.Arity.{count_of}
 use Rattle.mpl_ast.specs.declared.class.ResultType.{ResultType}
 use Rattle.mpl_ast.specs.declared.class.ResultType.TheVariants.{Void, Typed}
 use Rattle.mpl_ast.specs.declared.program.Declaration.{Declaration}
 use Rattle.mpl_ast.specs.declared.program.Declaration.TheVariants as declaration
+use Rattle.mpl_ast.specs.declared.statement.Dimension.{Dimension}
 use Rattle.mpl_ast.specs.declared.statement.TypeName.{TypeName}
 use Rattle.mpl_mean.specs.Levels.{BinaryOperator}
 use Rattle.mpl_mean.specs.Levels as levels
-use Rattle.mpl_mean.specs.Meaning.BodyMeaning.{of_object}
-use Rattle.mpl_mean.specs.Meaning.Layout.{Class, Function, Member, member_named, parts_of, words_of}
-use Rattle.mpl_plain.specs.ExpressionTrees.{ExpressionTree, ExpressionTrees, tree_name}
-use Rattle.mpl_plain.specs.ExpressionTrees as e
-use Rattle.mpl_plain.specs.FlowTrees.{FlowTree, FlowTrees}
-use Rattle.mpl_plain.specs.FlowTrees as f
-use Rattle.mpl_plain.specs.StatementTrees.{DeclaratorTree, Zeros, Holds, StatementTree, StatementTrees, statement_trees}
-use Rattle.mpl_plain.specs.StatementTrees as t
-use Rattle.mpl_mean.specs.Meaning.CallMeaning.{MayName}
-use Rattle.mpl_body_code.specs.Scopes.{Env, Found, Shape, Slot, class_found, formal_shape, found_at, slot_named, spot_of}
+use Rattle.mpl_mean.specs.Meaning.Layout.{Class, Member, dimension_of, member_named, words_of}
+use Rattle.mpl_mean.specs.Plain.Expr.{Expr, Exprs}
+use Rattle.mpl_mean.specs.Plain.Expr as e
+use Rattle.mpl_mean.specs.Plain.Stmt.{NewLocal, Stmt, Stmts}
+use Rattle.mpl_mean.specs.Plain.Stmt as t
+use Rattle.mpl_mean.specs.Meaning.CallMeaning.{MayName, name_of_target}
+use Rattle.mpl_mean.specs.Plain.Scopes.{Env, Found, Slot, behind, class_found, declares, formal_shape, found_at, slot_named}
+use Rattle.mpl_body_code.specs.Scopes.{spot_of}
 use Rattle.mpl_body_code.specs.declared.instruction.Finish.{Finish}
 use Rattle.mpl_body_code.specs.declared.instruction.Finish.TheVariants as finish
 use Rattle.mpl_body_code.specs.declared.instruction.Instruction.{Instruction}
@@ -55,41 +55,15 @@ binary_code line (levels.Compare o) left right = left ++ (right ++ instruction.B
 binary_code line (levels.Add o) left right = left ++ (right ++ instruction.Binary line (operator.Add o) ∷ [])
 binary_code line (levels.Multiply o) left right = left ++ (right ++ instruction.Binary line (operator.Multiply o) ∷ [])
 
-abbrev pub count_of : ExpressionTrees → ℕ
-count_of e.NoExpression = 0
-count_of (e.MoreExpressions tree trees) = suc (count_of trees)
+-- ---- calls
 
-abbrev mutual
-  pub expression_code : Env → ExpressionTree → Code
-  expression_code env (e.Number z) = instruction.Number z ∷ []
-  expression_code env (e.Truth b) = instruction.Truth b ∷ []
-  expression_code env e.Own = instruction.Own ∷ []
-  expression_code env (e.Input line) = instruction.Input line ∷ []
-  expression_code env (e.Read target) = read_code (found_at env target)
-  expression_code env (e.Element line target index) = read_code (found_at env target) ++ (expression_code env index ++ instruction.Index line ∷ [])
-  expression_code env (e.CallPlain function arguments) =
-      expressions_code env arguments ++ plain_code (number_of_function 0 function.text env.declarations) (count_of arguments)
-  expression_code env (e.Parenthesized inner) = expression_code env inner
-  expression_code env (e.Unary line operator operand) = expression_code env operand ++ instruction.Unary line operator ∷ []
-  expression_code env (e.Binary line operator left right) = binary_code line operator (expression_code env left) (expression_code env right)
-
-  pub expressions_code : Env → ExpressionTrees → Code
-  expressions_code env e.NoExpression = []
-  expressions_code env (e.MoreExpressions tree trees) = expression_code env tree ++ expressions_code env trees
-
--- ---- flows
-
-abbrev pub whole_slot : Env → MayName → Option Slot
-whole_slot env None = None
-whole_slot env (Some name) = slot_named name env.scope
+abbrev pub slot_of_name : Env → MayName → Option Slot
+slot_of_name env None = None
+slot_of_name env (Some name) = slot_named name env.scope
 
 abbrev pub passed_code : Option Slot → Code → Code
 passed_code None value = value
 passed_code (Some slot) value = instruction.Pass slot.number ∷ []
-
-abbrev pub count_of_flows : FlowTrees → ℕ
-count_of_flows f.NoFlow = 0
-count_of_flows (f.MoreFlows tree trees) = suc (count_of_flows trees)
 
 abbrev pub object_code : Option Member → ℕ → Code → Code
 object_code None count arguments = instruction.Wait ∷ []
@@ -109,37 +83,64 @@ target_code line found (Some class) member count arguments =
     if class.is_regular then regular_code (member_named member class.members) count arguments
     else (read_code found ++ instruction.Receiver line ∷ object_code (member_named member class.members) count arguments)
 
-abbrev mutual
-  pub flow_code : Env → FlowTree → Code
-  flow_code env (f.Value tree) = passed_code (whole_slot env (tree_name tree)) (expression_code env tree)
-  flow_code env (f.CallOnOwn member arguments) = own_code (member_named member.text env.members) (count_of_flows arguments) (flows_code env arguments)
-  flow_code env (f.CallOnTarget line target member arguments) =
-      target_code line (found_at env target) (class_found env (found_at env target)) member.text (count_of_flows arguments) (flows_code env arguments)
+-- ---- all of them, as values and as what is passed on
 
-  pub flows_code : Env → FlowTrees → Code
-  flows_code env f.NoFlow = []
-  flows_code env (f.MoreFlows tree trees) = flow_code env tree ++ flows_code env trees
+pub record Coded : Type 0 where
+  pub value : Code
+  pub passes : Code
+
+abbrev pub codes_value : Env → MayName → Code → Coded
+codes_value env name value = record { value = value; passes = passed_code (slot_of_name env name) value }
+
+-- a call, whose result is forced where it is a value
+abbrev pub codes_result : Code → Coded
+codes_result call = record { value = call ++ instruction.Force ∷ []; passes = call }
+
+abbrev mutual
+  pub tree_code : Env → Expr → Coded
+  tree_code env (e.Number at value) = codes_value env None (instruction.Number value ∷ [])
+  tree_code env (e.Truth at value) = codes_value env None (instruction.Truth value ∷ [])
+  tree_code env (e.Own at) = codes_value env None (instruction.Own ∷ [])
+  tree_code env (e.Input at) = codes_value env None (instruction.Input at.line ∷ [])
+  tree_code env (e.Whole at target) = codes_value env (name_of_target target) (read_code (found_at env target))
+  tree_code env (e.Element at line target index) =
+      codes_value env None (read_code (found_at env target) ++ ((tree_code env index).value ++ instruction.Index line ∷ []))
+  tree_code env (e.PlainCall at function arguments) =
+      codes_value env None (expressions_code env arguments ++ plain_code (number_of_function 0 function.text env.declarations) (count_of arguments))
+  tree_code env (e.Parenthesized at inner) = codes_value env None (tree_code env inner).value
+  tree_code env (e.Unary at line operator operand) = codes_value env None ((tree_code env operand).value ++ instruction.Unary line operator ∷ [])
+  tree_code env (e.Binary at line operator left right) = codes_value env None (binary_code line operator (tree_code env left).value (tree_code env right).value)
+  tree_code env (e.CallOnOwn at member arguments) =
+      codes_result (own_code (member_named member.text env.members) (count_of arguments) (flows_code env arguments))
+  tree_code env (e.CallOnTarget at target member arguments) =
+      codes_result (target_code at.line (found_at env target) (class_found env (found_at env target)) member.text (count_of arguments) (flows_code env arguments))
+
+  pub expressions_code : Env → Exprs → Code
+  expressions_code env e.NoExpr = []
+  expressions_code env (e.MoreExprs expr exprs) = (tree_code env expr).value ++ expressions_code env exprs
+
+  pub flows_code : Env → Exprs → Code
+  flows_code env e.NoExpr = []
+  flows_code env (e.MoreExprs expr exprs) = (tree_code env expr).passes ++ flows_code env exprs
+
+abbrev pub expression_code : Env → Expr → Code
+expression_code env expr = (tree_code env expr).value
+
+abbrev pub flow_code : Env → Expr → Code
+flow_code env expr = (tree_code env expr).passes
 
 -- ---- statements
 
-abbrev pub with_scope : Env → List Shape → Env
-with_scope env scope = record env { scope = scope }
+abbrev pub initial_code : Env → TypeName → Option Dimension → Option Expr → Code
+initial_code env type dimension None = instruction.Declare (words_of env.declarations type (dimension_of dimension)) ∷ []
+initial_code env type dimension (Some value) = flow_code env value ++ instruction.Bind ∷ []
 
-abbrev pub declares : TypeName → DeclaratorTree → Env → Env
-declares type (Zeros name dimension) env = with_scope env (record { name = name; type = type; dimension = dimension } ∷ env.scope)
-declares type (Holds name value) env = with_scope env (record { name = name; type = type; dimension = None } ∷ env.scope)
+abbrev pub local_code : Env → TypeName → NewLocal → Code
+local_code env type new = initial_code env type new.dimension new.initialiser
 
-abbrev pub declares_all : TypeName → List DeclaratorTree → Env → Env
-declares_all type [] env = env
-declares_all type (d ∷ ds) env = declares_all type ds (declares type d env)
-
-abbrev pub declarator_code : Env → TypeName → DeclaratorTree → Code
-declarator_code env type (Zeros name dimension) = instruction.Declare (words_of env.declarations type dimension) ∷ []
-declarator_code env type (Holds name value) = flow_code env value ++ instruction.Bind ∷ []
-
-abbrev pub declarators_code : Env → TypeName → List DeclaratorTree → Code
-declarators_code env type [] = []
-declarators_code env type (d ∷ ds) = declarator_code env type d ++ declarators_code (declares type d env) type ds
+abbrev pub locals_code : Env → TypeName → List NewLocal → Code
+locals_code env type [] = []
+locals_code env type (new ∷ news) = local_code env type new ++ locals_code (declares type new env) type news
 
 -- what is on top goes into a place
 abbrev pub into_slot : Found → Option Slot → Bool → Code
@@ -154,6 +155,12 @@ into_code (Some found) = into_slot found found.slot found.is_whole
 abbrev pub element_code : ℕ → Option Found → Code
 element_code line None = instruction.Wait ∷ []
 element_code line (Some found) = instruction.PutElement line (spot_of found) ∷ []
+
+-- what is on top goes into what is assigned to
+abbrev pub place_code : Env → Expr → Code
+place_code env (e.Whole at target) = into_code (found_at env target)
+place_code env (e.Element at line target index) = instruction.Force ∷ (expression_code env index ++ element_code line (found_at env target))
+place_code env other = instruction.Wait ∷ []
 
 abbrev pub new_code : Option Class → Code
 new_code None = instruction.Wait ∷ []
@@ -176,65 +183,46 @@ abbrev pub loop_code : Code → Code → Code
 loop_code test body =
     instruction.Turn ∷ (test ++ instruction.Unless (suc (length body)) ∷ (body ++ instruction.Again (length test + suc (length body)) ∷ []))
 
-abbrev pub expression_codes : Env → List ExpressionTree → Code
+abbrev pub expression_codes : Env → List Expr → Code
 expression_codes env [] = []
-expression_codes env (tree ∷ trees) = expression_code env tree ++ expression_codes env trees
+expression_codes env (expr ∷ exprs) = expression_code env expr ++ expression_codes env exprs
 
-abbrev pub return_code : Env → Option ExpressionTree → Code
+abbrev pub return_code : Env → Option Expr → Code
 return_code env None = instruction.ReturnNothing ∷ []
-return_code env (Some tree) = expression_code env tree ++ instruction.Return ∷ []
-
--- what surrounds the next statement
-abbrev pub behind : StatementTree → Env → Env
-behind t.Nothing env = env
-behind (t.Within statements) env = env
-behind (t.Declare type declarators) env = declares_all type declarators env
-behind (t.AssignWhole target value) env = env
-behind (t.AssignElement line target index value) env = env
-behind (t.CallAlone call) env = env
-behind (t.Create target) env = env
-behind (t.When test then_part) env = env
-behind (t.Branch test then_part else_part) env = env
-behind (t.While test body) env = env
-behind (t.For first test step body) env = env
-behind (t.Print arguments) env = env
-behind (t.Rtf line value) env = env
-behind (t.Return value) env = env
+return_code env (Some expr) = expression_code env expr ++ instruction.Return ∷ []
 
 abbrev mutual
-  pub statement_code : Env → StatementTree → Code
+  pub statement_code : Env → Stmt → Code
   statement_code env t.Nothing = []
-  statement_code env (t.Within statements) = scope_code env (statements_code env statements)
-  statement_code env (t.Declare type declarators) = declarators_code env type declarators
-  statement_code env (t.AssignWhole target value) = flow_code env value ++ into_code (found_at env target)
-  statement_code env (t.AssignElement line target index value) =
-      flow_code env value ++ instruction.Force ∷ (expression_code env index ++ element_code line (found_at env target))
-  statement_code env (t.CallAlone call) = flow_code env call ++ instruction.Drop ∷ []
-  statement_code env (t.Create target) = create_code env (found_at env target)
+  statement_code env (t.Within stmts) = scope_code env (statements_code env stmts)
+  statement_code env (t.Locals type locals) = locals_code env type locals
+  statement_code env (t.Assigns at place value) = flow_code env value ++ place_code env place
+  statement_code env (t.Calls call) = flow_code env call ++ instruction.Drop ∷ []
+  statement_code env (t.Creates at target) = create_code env (found_at env target)
   statement_code env (t.When test then_part) =
       expression_code env test ++ instruction.Unless (length (scope_code env (statement_code env then_part))) ∷ scope_code env (statement_code env then_part)
-  statement_code env (t.Branch test then_part else_part) =
+  statement_code env (t.Branches test then_part else_part) =
       expression_code env test
       ++ instruction.Unless (suc (length (scope_code env (statement_code env then_part))))
       ∷ (scope_code env (statement_code env then_part)
       ++ instruction.Skip (length (scope_code env (statement_code env else_part))) ∷ scope_code env (statement_code env else_part))
-  statement_code env (t.While test body) = loop_code (expression_code env test) (scope_code env (statement_code env body))
-  statement_code env (t.For first test step body) =
+  statement_code env (t.Repeats test body) = loop_code (expression_code env test) (scope_code env (statement_code env body))
+  statement_code env (t.Loops first test step body) =
       scope_code env
       (statement_code env first
       ++ loop_code (expression_code (behind first env) test)
       (scope_code (behind first env) (statement_code (behind first env) body) ++ statement_code (behind first env) step))
-  statement_code env (t.Print arguments) = expression_codes env arguments ++ instruction.Print (length arguments) ∷ []
-  statement_code env (t.Rtf line value) = flow_code env value ++ instruction.Give line ∷ []
-  statement_code env (t.Return value) = return_code env value
+  statement_code env (t.Prints at arguments) = expression_codes env arguments ++ instruction.Print (length arguments) ∷ []
+  statement_code env (t.Gives at value) = flow_code env value ++ instruction.Give at.line ∷ []
+  statement_code env (t.Returns at value) = return_code env value
 
-  pub statements_code : Env → StatementTrees → Code
-  statements_code env t.NoStatement = []
-  statements_code env (t.MoreStatements tree trees) = statement_code env tree ++ statements_code (behind tree env) trees
+  pub statements_code : Env → Stmts → Code
+  statements_code env t.NoStmt = []
+  statements_code env (t.MoreStmts stmt stmts) = statement_code env stmt ++ statements_code (behind stmt env) stmts
 
 -- the statements of a body, and its end
-abbrev pub body_code : Env → StatementTrees → Code
-body_code env trees = statements_code env trees ++ instruction.End ∷ []
+abbrev pub body_code : Env → Stmts → Code
+body_code env stmts = statements_code env stmts ++ instruction.End ∷ []
 
 -- ---- where it stands
 
@@ -242,24 +230,6 @@ body_code env trees = statements_code env trees ++ instruction.End ∷ []
 abbrev pub From : Code → ℕ → Code → ℕ → Type 0
 From code place [] end = place ≡ end
 From code place (i ∷ is) end = (slice_get code place ≡ Some i) × From code (place + 1) is end
-
-abbrev pub function_env : List Declaration → Function → Env
-function_env ds function = record { declarations = ds; members = []; parts = []; scope = map formal_shape function.formals }
-
--- a member sees what its object has: nothing where its class is regular
-abbrev pub member_env : List Declaration → Class → Member → Env
-member_env ds class member = record {
-  declarations = ds;
-  members = of_object class class.members;
-  parts = of_object class (parts_of ds class.state);
-  scope = map formal_shape member.formals;
-}
-
-abbrev pub regular_env : List Declaration → Member → Env
-regular_env ds member = record { declarations = ds; members = []; parts = []; scope = map formal_shape member.formals }
-
-abbrev pub main_env : List Declaration → Env
-main_env ds = record { declarations = ds; members = []; parts = []; scope = [] }
 
 abbrev pub finish_of : ResultType → ℕ → Finish
 finish_of (Void at) line = finish.Void

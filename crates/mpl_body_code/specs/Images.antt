@@ -8,11 +8,11 @@ use Rattle.mpl_value.specs.declared.body.Yield.{Yield}
 use Rattle.mpl_mean.specs.Meaning.BodyMeaning.{split_words}
 use Rattle.mpl_mean.specs.Meaning.Layout.{Class, Function, Member, class_named, classes_of, function_named, member_named}
 use Rattle.mpl_mean.specs.Meaning.PlaceMeaning.{is_bool}
-use Rattle.mpl_plain.specs.StatementTrees.{StatementTrees, statement_trees}
-use Rattle.mpl_body_code.specs.Arity.{StatementsFit}
-use Rattle.mpl_body_code.specs.Codes.{From, body_code, finish_of, function_env, number_of_function, regular_env}
+use Rattle.mpl_mean.specs.Plain.Stmt.{Stmts, stmts_of}
+use Rattle.mpl_plain.specs.Arity.{StatementsFit}
+use Rattle.mpl_mean.specs.Plain.Scopes.{Env, function_env, regular_env}
+use Rattle.mpl_body_code.specs.Codes.{From, body_code, finish_of, number_of_function}
 use Rattle.mpl_body_code.specs.Machine.{Machine, Goes, Setting}
-use Rattle.mpl_body_code.specs.Scopes.{Env}
 use Rattle.mpl_body_code.specs.Steps.{exec, followed, spends}
 use Rattle.mpl_body_code.specs.declared.instruction.Finish.{Finish}
 use Rattle.mpl_body_code.specs.declared.instruction.Finish.TheVariants as finish
@@ -20,18 +20,18 @@ use Rattle.mpl_body_code.specs.declared.instruction.FunctionCode.{FunctionCode}
 use Rattle.mpl_body_code.specs.declared.instruction.MemberCode.{MemberCode}
 
 -- the code of these statements begins at a place
-pub record IsBodyCode (S : Setting) (env : Env) (trees : StatementTrees) (entry : ℕ) : Type 0 where
+pub record IsBodyCode (S : Setting) (env : Env) (stmts : Stmts) (entry : ℕ) : Type 0 where
   pub last : ℕ
-  pub code : From S.image.code entry (body_code env trees) last
-  pub fits : StatementsFit env trees
+  pub code : From S.image.code entry (body_code env stmts) last
+  pub fits : StatementsFit env stmts
 
 pub record IsFunctionCode (S : Setting) (ds : List Declaration) (f : Function) (r : FunctionCode) : Type 0 where
-  pub body : IsBodyCode S (function_env ds f) (statement_trees f.body.statements) r.entry
+  pub body : IsBodyCode S (function_env ds f) (stmts_of f.body) r.entry
   pub line : r.line ≡ f.body.mark_line
   pub gives_bool : r.is_bool ≡ is_bool f.result
 
 pub record IsMemberCode (S : Setting) (env : Env) (m : Member) (r : MemberCode) : Type 0 where
-  pub body : IsBodyCode S env (statement_trees m.body.statements) r.entry
+  pub body : IsBodyCode S env (stmts_of m.body) r.entry
   pub finish : r.finish ≡ finish_of m.result m.body.mark_line
 
 pub record FunctionAt (S : Setting) (ds : List Declaration) (name : List ℕ) (f : Function) : Type 0 where

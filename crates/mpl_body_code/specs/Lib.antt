@@ -3,7 +3,6 @@ pub mod Machine
 pub mod Steps
 pub mod Scopes
 pub mod Codes
-pub mod Arity
 pub mod Images
 pub mod StepsLeft
 pub mod Runnable

@@ -1,4 +1,5 @@
 ghost use Rattle.std.specs.Prelude.{◌≡◌, [], ◌∷◌, ◌++◌, ◌<◌, ◌^◌, length, slice_get, true, IfSome, OnOk};
+ghost use Rattle.std.specs.Option.{option_copied};
 ghost use Rattle.mpl_body_code.specs.Runnable.{numbers_fit};
 
 use crate::instruction::Instruction;
@@ -69,11 +70,12 @@ impl Code {
         Ok(())
     }
 
+    #[inline(always)]
     #[tactic(auto, using(crate::proofs::RunnableCode::got_runnable))]
-    pub fn get(&self, place: usize) -> Option<Instruction>
-        ensures is { result ≡ slice_get self.now place }
-        ensures fits { IfSome result (λ i. (numbers_fit i ≡ true) × (place < 2 ^ 62)) }
+    pub fn get(&self, place: usize) -> Option<&Instruction>
+        ensures is { option_copied result ≡ slice_get self.now place }
+        ensures fits { IfSome result (λ i. (numbers_fit i.now ≡ true) × (place < 2 ^ 62)) }
     {
-        self.list.get(place).copied()
+        self.list.get(place)
     }
 }

@@ -9,4 +9,4 @@ mod laws;
 pub use code::Code;
 pub use image::Image;
 pub use instruction::{Base, Finish, FunctionCode, Instruction, MemberCode, Operator, Spot};
-pub use laws::{calls_have_their_arguments, code_does_what_bodies_mean, steps_run_out};
+pub use laws::{code_does_what_bodies_mean, steps_run_out};

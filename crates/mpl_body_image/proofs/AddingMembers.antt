@@ -6,9 +6,9 @@ use Rattle.mpl_ast.specs.declared.class.Item.{Item}
 use Rattle.mpl_ast.specs.declared.program.Declaration.{Declaration}
 use Rattle.mpl_ast.specs.declared.statement.Statement.{Statement}
 use Rattle.mpl_mean.specs.Meaning.Layout.{Class, Member, members_from}
-use Rattle.mpl_plain.specs.StatementTrees.{statement_trees}
+use Rattle.mpl_mean.specs.Plain.Stmt.{stmts_from}
 use Rattle.mpl_body_code.specs.Codes.{Code, body_code}
-use Rattle.mpl_body_code.specs.Scopes.{formal_shape}
+use Rattle.mpl_mean.specs.Plain.Scopes.{formal_shape}
 use Rattle.mpl_body_code.specs.declared.instruction.MemberCode.{MemberCode}
 use Rattle.mpl_body_image.specs.Internal.Bodies.{Sees, env_with}
 use Rattle.mpl_body_image.specs.Laid.{member_code, member_entries, member_entry, members_code}
@@ -17,11 +17,11 @@ use Rattle.mpl_body_image.proofs.Adding.{code_added, entry_added, later_place, s
 
 -- the code of a member stands behind what was there
 pub member_written : (ds : List Declaration) (object : Option (Bor Object)) (class : Class) (m : Member) (formals : List Formal) (statements : List Statement) (old new : Code) → Sees ds object class
-    → formals ≡ m.formals → statements ≡ m.body.statements → new ≡ old ++ body_code (env_with ds object formals) (statement_trees statements) → new ≡ old ++ member_code ds class m
+    → formals ≡ m.formals → statements ≡ m.body.statements → new ≡ old ++ body_code (env_with ds object formals) (stmts_from statements) → new ≡ old ++ member_code ds class m
 member_written ds object class m formals statements old new sees is are h =
     h
-    ∙ ap₂ (λ formals statements. old ++ body_code (env_with ds object formals) (statement_trees statements)) is are
-    ∙ ap₂ (λ members parts. old ++ body_code (record { declarations = ds; members = members; parts = parts; scope = map formal_shape m.formals }) (statement_trees m.body.statements)) sees.members sees.parts
+    ∙ ap₂ (λ formals statements. old ++ body_code (env_with ds object formals) (stmts_from statements)) is are
+    ∙ ap₂ (λ members parts. old ++ body_code (record { declarations = ds; members = members; parts = parts; scope = map formal_shape m.formals }) (stmts_from m.body.statements)) sees.members sees.parts
 
 pub code_with : (ds : List Declaration) (class : Class) (m : Member) (id : ℕ) (others : List Item) (old new : Code) → new ≡ old ++ member_code ds class m
     → new ++ members_code ds class (members_from id others) ≡ old ++ (member_code ds class m ++ members_code ds class (members_from (id + 1) others))

@@ -10,14 +10,14 @@ use Rattle.mpl_mean.specs.Meaning.BodyMeaning.{main_statements}
 use Rattle.mpl_mean.specs.Meaning.Layout as layout
 use Rattle.mpl_mean.specs.Meaning.Layout.{Class, Function, Member, class_named, classes_of, function_named, member_named, member_numbered, parts_of}
 use Rattle.mpl_mean.specs.TypeRules.Rules.{is_typed}
-use Rattle.mpl_plain.specs.StatementTrees.{StatementTrees, statement_trees}
-use Rattle.mpl_body_code.proofs.FittingBodies.{function_fits, main_fits, numbered_fits, regular_fits}
+use Rattle.mpl_mean.specs.Plain.Stmt.{Stmts, stmts_from}
+use Rattle.mpl_plain.proofs.FittingBodies.{function_fits, main_fits, numbered_fits, regular_fits}
 use Rattle.mpl_mean.proofs.Sizes.SizedPrograms.{well_program}
-use Rattle.mpl_body_code.specs.Arity.{StatementsFit}
-use Rattle.mpl_body_code.specs.Codes.{From, body_code, function_env, main_env, member_env, regular_env}
+use Rattle.mpl_plain.specs.Arity.{StatementsFit}
+use Rattle.mpl_mean.specs.Plain.Scopes.{Env, formal_shape, function_env, member_env, main_env, regular_env}
+use Rattle.mpl_body_code.specs.Codes.{From, body_code}
 use Rattle.mpl_body_code.specs.Images.{FunctionAt, HasCode, IsBodyCode, IsMemberCode, MemberAt}
 use Rattle.mpl_body_code.specs.Machine.{Image, Setting}
-use Rattle.mpl_body_code.specs.Scopes.{Env, formal_shape}
 use Rattle.mpl_body_image.specs.Laid.{classes_code, function_entry, functions_code, laid, main_code, main_entry, member_entry}
 use Rattle.mpl_body_image.proofs.Standing.{AmongClasses, MemberPlaced, Part, class_among, class_placed, function_placed, id_among, named_among, part_stands}
 
@@ -40,15 +40,15 @@ main_part ds = record {
 -- ---- bodies
 
 module _ (S : Setting) (p : Program) (is : S.image ≡ laid p.declarations) (typed : is_typed p ≡ true) where
-  body_at : (env : Env) (trees : StatementTrees) (place : ℕ) → Part (laid p.declarations).code (body_code env trees) place → StatementsFit env trees → IsBodyCode S env trees place
+  body_at : (env : Env) (trees : Stmts) (place : ℕ) → Part (laid p.declarations).code (body_code env trees) place → StatementsFit env trees → IsBodyCode S env trees place
   body_at env trees place part fits = record {
     last = place + length (body_code env trees);
     code = subst (λ (image : Image). From image.code place (body_code env trees) (place + length (body_code env trees))) (sym is) (part_stands (laid p.declarations).code (body_code env trees) place part);
     fits = fits;
   }
 
-  pub main_is : IsBodyCode S (main_env p.declarations) (statement_trees (main_statements p.declarations)) (main_entry p.declarations)
-  main_is = body_at (main_env p.declarations) (statement_trees (main_statements p.declarations)) (main_entry p.declarations) (main_part p.declarations) (main_fits p.declarations (well_program p typed))
+  pub main_is : IsBodyCode S (main_env p.declarations) (stmts_from (main_statements p.declarations)) (main_entry p.declarations)
+  main_is = body_at (main_env p.declarations) (stmts_from (main_statements p.declarations)) (main_entry p.declarations) (main_part p.declarations) (main_fits p.declarations (well_program p typed))
 
   function_is : (name : List ℕ) (f : Function) → function_named name p.declarations ≡ Some f → FunctionAt S p.declarations name f
   function_is name f found =
@@ -59,7 +59,7 @@ module _ (S : Setting) (p : Program) (is : S.image ≡ laid p.declarations) (typ
         code = function_entry h.place f;
         stands = ap (λ (image : Image). slice_get image.functions h.further) is ∙ h.entry;
         is = record {
-          body = body_at (function_env p.declarations f) (statement_trees f.body.statements) h.place h.code (function_fits p.declarations (well_program p typed) name f found);
+          body = body_at (function_env p.declarations f) (stmts_from f.body.statements) h.place h.code (function_fits p.declarations (well_program p typed) name f found);
           line = refl;
           gives_bool = refl;
         };
@@ -75,8 +75,8 @@ module _ (S : Setting) (p : Program) (is : S.image ≡ laid p.declarations) (typ
       ∙ ap (slice_get (laid p.declarations).members) (h.numbered ∙ (let e : 0 + h.further ≡ h.further = omega arith in e)) ∙ h.entry
 
   member_is : (class : Class) (m : Member) (h : MemberPlaced (laid p.declarations).code p.declarations (laid p.declarations).members 0 class m)
-      → StatementsFit (member_env p.declarations class m) (statement_trees m.body.statements) → IsMemberCode S (member_env p.declarations class m) m (member_entry h.place m)
-  member_is class m h fits = record { body = body_at (member_env p.declarations class m) (statement_trees m.body.statements) h.place h.code fits; finish = refl }
+      → StatementsFit (member_env p.declarations class m) (stmts_from m.body.statements) → IsMemberCode S (member_env p.declarations class m) m (member_entry h.place m)
+  member_is class m h fits = record { body = body_at (member_env p.declarations class m) (stmts_from m.body.statements) h.place h.code fits; finish = refl }
 
   regular_same : (class : Class) (m : Member) → class.is_regular ≡ true → member_env p.declarations class m ≡ regular_env p.declarations m
   regular_same class m regular =
@@ -93,7 +93,7 @@ module _ (S : Setting) (p : Program) (is : S.image ≡ laid p.declarations) (typ
         code = member_entry h.place m;
         stands = stands_at class m h;
         is = subst (λ (env : Env). IsMemberCode S env m (member_entry h.place m)) same
-            (member_is class m h (subst (λ (env : Env). StatementsFit env (statement_trees m.body.statements)) (sym same) (regular_fits p.declarations (well_program p typed) name member class m e regular found)));
+            (member_is class m h (subst (λ (env : Env). StatementsFit env (stmts_from m.body.statements)) (sym same) (regular_fits p.declarations (well_program p typed) name member class m e regular found)));
       }
 
   pub has_code : HasCode S p.declarations

@@ -5,8 +5,8 @@ use Rattle.std.specs.Prelude.{slice_get}
 use Rattle.std.proofs.lemmas.Slice.Eq.{bytes_eq-Decides}
 use Rattle.std.specs.Str.{bytes_eq}
 use Rattle.mpl_mean.proofs.Truth.{some_is}
-use Rattle.mpl_body_code.specs.Scopes as code
-use Rattle.mpl_body_code.specs.Scopes.{slot_named}
+use Rattle.mpl_mean.specs.Plain.Scopes as code
+use Rattle.mpl_mean.specs.Plain.Scopes.{slot_named}
 use Rattle.mpl_body_image.specs.Internal.SeenLocals.{Hides, if_any, newest_first, number_named, numbered, shape_seen, shapes_seen}
 use Rattle.mpl_body_image.specs.declared.locals.Local.{Local}
 use Rattle.mpl_body_image.specs.declared.locals.Newest.{Newest}

@@ -5,7 +5,7 @@ pub mod Outlines
 pub mod SeenParts
 pub mod Parts
 pub mod SeenScope
-pub mod LevelTrees
+pub mod RowCodes
 pub mod ByNumber
 pub mod Writing
 pub mod Bodies

@@ -5,8 +5,9 @@ use Rattle.mpl_ast.specs.declared.program.Declaration.TheVariants as declaration
 use Rattle.mpl_mean.specs.Meaning.BodyMeaning.{main_statements}
 use Rattle.mpl_mean.specs.Meaning.Layout.{Class, Function, Member, classes_of, formals_of}
 use Rattle.mpl_mean.specs.Meaning.PlaceMeaning.{is_bool}
-use Rattle.mpl_plain.specs.StatementTrees.{statement_trees}
-use Rattle.mpl_body_code.specs.Codes.{Code, body_code, finish_of, function_env, main_env, member_env}
+use Rattle.mpl_mean.specs.Plain.Stmt.{stmts_from}
+use Rattle.mpl_mean.specs.Plain.Scopes.{function_env, member_env, main_env}
+use Rattle.mpl_body_code.specs.Codes.{Code, body_code, finish_of}
 use Rattle.mpl_body_code.specs.Machine.{Image}
 use Rattle.mpl_body_code.specs.declared.instruction.FunctionCode.{FunctionCode}
 use Rattle.mpl_body_code.specs.declared.instruction.MemberCode.{MemberCode}
@@ -14,7 +15,7 @@ use Rattle.mpl_body_code.specs.declared.instruction.MemberCode.{MemberCode}
 -- ---- functions
 
 abbrev pub function_code : List Declaration → Function → Code
-function_code ds f = body_code (function_env ds f) (statement_trees f.body.statements)
+function_code ds f = body_code (function_env ds f) (stmts_from f.body.statements)
 
 abbrev pub function_entry : ℕ → Function → FunctionCode
 function_entry place f = record { entry = place; line = f.body.mark_line; is_bool = is_bool f.result }
@@ -39,7 +40,7 @@ function_entries ds place (declaration.Function at result name formals body ∷ 
 -- ---- members
 
 abbrev pub member_code : List Declaration → Class → Member → Code
-member_code ds class m = body_code (member_env ds class m) (statement_trees m.body.statements)
+member_code ds class m = body_code (member_env ds class m) (stmts_from m.body.statements)
 
 abbrev pub member_entry : ℕ → Member → MemberCode
 member_entry place m = record { entry = place; finish = finish_of m.result m.body.mark_line }
@@ -64,7 +65,7 @@ class_entries ds place (class ∷ classes) =
 -- ---- the whole
 
 abbrev pub main_code : List Declaration → Code
-main_code ds = body_code (main_env ds) (statement_trees (main_statements ds))
+main_code ds = body_code (main_env ds) (stmts_from (main_statements ds))
 
 abbrev pub laid : List Declaration → Image
 laid ds = record {

@@ -1,11 +1,9 @@
 ghost use Rattle.std.specs.Prelude.{◌≡◌, [], ◌∷◌, ◌++◌, length, map, option_map, Some, OnOk};
-ghost use Rattle.mpl_ast.specs.declared.expression.Place.{out-Place};
-ghost use Rattle.mpl_body_code.specs.Codes.{create_code, create_in, element_code, expression_codes, into_code, new_code, return_code, statement_code};
-ghost use Rattle.mpl_body_code.specs.Scopes.{found_at};
+ghost use Rattle.mpl_body_code.specs.Codes.{create_code, create_in, element_code, expression_codes, flow_code, into_code, new_code, place_code, return_code, statement_code};
+ghost use Rattle.mpl_mean.specs.Plain.Scopes.{found_at};
 ghost use Rattle.mpl_body_code.specs.declared.instruction.Instruction.TheVariants as instruction;
-ghost use Rattle.mpl_plain.specs.ExpressionTrees.{expression_tree};
-ghost use Rattle.mpl_plain.specs.FlowTrees.{flow_tree};
-ghost use Rattle.mpl_plain.specs.StatementTrees.{assigned_tree, assignment_tree};
+ghost use Rattle.mpl_mean.specs.Plain.Expr.{expr_of, expr_of_flow, expr_of_place};
+ghost use Rattle.mpl_mean.specs.Plain.Stmt.{assigns};
 ghost use Rattle.mpl_body_image.specs.Internal.SeenClasses.{class_seen};
 ghost use Rattle.mpl_body_image.specs.Internal.SeenScope.{env_seen, found_seen};
 
@@ -23,7 +21,7 @@ pub fn assign<'o, 'a>(
     code: &mut Code,
     node: &'a Assignment,
 ) -> Result<(), NoMemory>
-    ensures { OnOk result (code.new ≡ code.old ++ statement_code (env_seen scope.now) (assignment_tree node.now)) }
+    ensures { OnOk result (code.new ≡ code.old ++ statement_code (env_seen scope.now) (assigns node.now)) }
 {
     assign_place(scope, code, &node.place, &node.value)
 }
@@ -34,7 +32,7 @@ fn assign_place<'o, 'a>(
     place: &'a Place,
     value: &'a Flow,
 ) -> Result<(), NoMemory>
-    ensures { OnOk result (code.new ≡ code.old ++ statement_code (env_seen scope.now) (assigned_tree (out-Place place.now) (flow_tree value.now))) }
+    ensures { OnOk result (code.new ≡ code.old ++ (flow_code (env_seen scope.now) (expr_of_flow value.now) ++ place_code (env_seen scope.now) (expr_of_place place.now))) }
 {
     match place {
         Place::Whole(_, target) => {
@@ -154,7 +152,7 @@ pub fn print<'o, 'a>(
     code: &mut Code,
     list: &'a [Expression],
 ) -> Result<(), NoMemory>
-    ensures { OnOk result (code.new ≡ code.old ++ (expression_codes (env_seen scope.now) (map expression_tree list.now) ++ instruction.Print (length (map expression_tree list.now)) ∷ [])) }
+    ensures { OnOk result (code.new ≡ code.old ++ (expression_codes (env_seen scope.now) (map expr_of list.now) ++ instruction.Print (length (map expr_of list.now)) ∷ [])) }
 {
     for argument in list {
         expression(scope, code, argument)?;
@@ -167,7 +165,7 @@ pub fn give_back<'o, 'a>(
     code: &mut Code,
     value: Option<&'a Expression>,
 ) -> Result<(), NoMemory>
-    ensures { OnOk result (code.new ≡ code.old ++ return_code (env_seen scope.now) (option_map (λ e. expression_tree e.now) value.entry)) }
+    ensures { OnOk result (code.new ≡ code.old ++ return_code (env_seen scope.now) (option_map (λ e. expr_of e.now) value.entry)) }
 {
     match value {
         Some(value) => {

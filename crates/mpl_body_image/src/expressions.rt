@@ -1,8 +1,10 @@
 ghost use Rattle.std.specs.Prelude.{◌≡◌, ◌++◌, map, option_map, OnOk};
-ghost use Rattle.mpl_body_code.specs.Codes.{count_of, expression_code, plain_code, read_code};
-ghost use Rattle.mpl_body_code.specs.Scopes.{found_at};
-ghost use Rattle.mpl_plain.specs.ExpressionTrees.{expression_tree, listed};
-ghost use Rattle.mpl_body_image.specs.Internal.LevelTrees.{all_code, conjunction_tree, equality_tree, place_tree, primary_tree, relation_tree, sum_tree, term_tree, unary_tree};
+ghost use Rattle.mpl_plain.specs.Arity.{count_of};
+ghost use Rattle.mpl_body_code.specs.Codes.{expression_code, plain_code, read_code};
+ghost use Rattle.mpl_mean.specs.Plain.Scopes.{found_at};
+ghost use Rattle.mpl_mean.specs.FirstForms.ExpressionLevels.{expr_of_conjunction, expr_of_equality, expr_of_primary, expr_of_relation, expr_of_sum, expr_of_term, expr_of_unary};
+ghost use Rattle.mpl_mean.specs.Plain.Expr.{expr_of, expr_of_place, listed};
+ghost use Rattle.mpl_body_image.specs.Internal.RowCodes.{all_code};
 ghost use Rattle.mpl_body_image.specs.Internal.SeenScope.{env_seen, found_seen};
 
 use crate::scope::{Found, Scope, found_at, spot_of};
@@ -18,7 +20,7 @@ pub fn expression<'o, 'a>(
     code: &mut Code,
     node: &'a Expression,
 ) -> Result<(), NoMemory>
-    ensures { OnOk result (code.new ≡ code.old ++ expression_code (env_seen scope.now) (expression_tree node.now)) }
+    ensures { OnOk result (code.new ≡ code.old ++ expression_code (env_seen scope.now) (expr_of node.now)) }
 {
     match node {
         Expression::OneConjunction(_, inner) => conjunction(scope, code, inner),
@@ -38,7 +40,7 @@ fn conjunction<'o, 'a>(
     code: &mut Code,
     node: &'a Conjunction,
 ) -> Result<(), NoMemory>
-    ensures { OnOk result (code.new ≡ code.old ++ expression_code (env_seen scope.now) (conjunction_tree node.now)) }
+    ensures { OnOk result (code.new ≡ code.old ++ expression_code (env_seen scope.now) (expr_of_conjunction node.now)) }
 {
     match node {
         Conjunction::OneEquality(_, inner) => equality(scope, code, inner),
@@ -58,7 +60,7 @@ fn equality<'o, 'a>(
     code: &mut Code,
     node: &'a Equality,
 ) -> Result<(), NoMemory>
-    ensures { OnOk result (code.new ≡ code.old ++ expression_code (env_seen scope.now) (equality_tree node.now)) }
+    ensures { OnOk result (code.new ≡ code.old ++ expression_code (env_seen scope.now) (expr_of_equality node.now)) }
 {
     match node {
         Equality::OneRelation(_, inner) => relation(scope, code, inner),
@@ -76,7 +78,7 @@ fn relation<'o, 'a>(
     code: &mut Code,
     node: &'a Relation,
 ) -> Result<(), NoMemory>
-    ensures { OnOk result (code.new ≡ code.old ++ expression_code (env_seen scope.now) (relation_tree node.now)) }
+    ensures { OnOk result (code.new ≡ code.old ++ expression_code (env_seen scope.now) (expr_of_relation node.now)) }
 {
     match node {
         Relation::OneSum(_, inner) => sum(scope, code, inner),
@@ -90,7 +92,7 @@ fn relation<'o, 'a>(
 
 #[cycle(expression)]
 fn sum<'o, 'a>(scope: &Scope<'o, 'a>, code: &mut Code, node: &'a Sum) -> Result<(), NoMemory>
-    ensures { OnOk result (code.new ≡ code.old ++ expression_code (env_seen scope.now) (sum_tree node.now)) }
+    ensures { OnOk result (code.new ≡ code.old ++ expression_code (env_seen scope.now) (expr_of_sum node.now)) }
 {
     match node {
         Sum::OneTerm(_, inner) => term(scope, code, inner),
@@ -104,7 +106,7 @@ fn sum<'o, 'a>(scope: &Scope<'o, 'a>, code: &mut Code, node: &'a Sum) -> Result<
 
 #[cycle(expression)]
 fn term<'o, 'a>(scope: &Scope<'o, 'a>, code: &mut Code, node: &'a Term) -> Result<(), NoMemory>
-    ensures { OnOk result (code.new ≡ code.old ++ expression_code (env_seen scope.now) (term_tree node.now)) }
+    ensures { OnOk result (code.new ≡ code.old ++ expression_code (env_seen scope.now) (expr_of_term node.now)) }
 {
     match node {
         Term::OneUnary(_, inner) => unary(scope, code, inner),
@@ -118,7 +120,7 @@ fn term<'o, 'a>(scope: &Scope<'o, 'a>, code: &mut Code, node: &'a Term) -> Resul
 
 #[cycle(expression)]
 fn unary<'o, 'a>(scope: &Scope<'o, 'a>, code: &mut Code, node: &'a Unary) -> Result<(), NoMemory>
-    ensures { OnOk result (code.new ≡ code.old ++ expression_code (env_seen scope.now) (unary_tree node.now)) }
+    ensures { OnOk result (code.new ≡ code.old ++ expression_code (env_seen scope.now) (expr_of_unary node.now)) }
 {
     match node {
         Unary::OnePrimary(_, inner) => primary(scope, code, inner),
@@ -135,7 +137,7 @@ fn primary<'o, 'a>(
     code: &mut Code,
     node: &'a Primary,
 ) -> Result<(), NoMemory>
-    ensures { OnOk result (code.new ≡ code.old ++ expression_code (env_seen scope.now) (primary_tree node.now)) }
+    ensures { OnOk result (code.new ≡ code.old ++ expression_code (env_seen scope.now) (expr_of_primary node.now)) }
 {
     match node {
         Primary::Number(_, number) => code.push(Instruction::Number(*number)),
@@ -154,7 +156,7 @@ fn primary<'o, 'a>(
 
 #[cycle(expression)]
 fn place<'o, 'a>(scope: &Scope<'o, 'a>, code: &mut Code, node: &'a Place) -> Result<(), NoMemory>
-    ensures { OnOk result (code.new ≡ code.old ++ expression_code (env_seen scope.now) (place_tree node.now)) }
+    ensures { OnOk result (code.new ≡ code.old ++ expression_code (env_seen scope.now) (expr_of_place node.now)) }
 {
     match node {
         Place::Whole(_, target) => read_target(scope, code, target),
@@ -187,7 +189,7 @@ fn call_with<'o, 'a>(
     number: Option<usize>,
     list: &'a [Expression],
 ) -> Result<(), NoMemory>
-    ensures { OnOk result (code.new ≡ code.old ++ (all_code (env_seen scope.now) list.now ++ plain_code number (count_of (listed (map expression_tree list.now))))) }
+    ensures { OnOk result (code.new ≡ code.old ++ (all_code (env_seen scope.now) list.now ++ plain_code number (count_of (listed (map expr_of list.now))))) }
 {
     arguments(scope, code, list)?;
     call_plain(code, number, count(list))
@@ -196,7 +198,7 @@ fn call_with<'o, 'a>(
 /// How many arguments there are.
 #[tactic(auto, using(crate::proofs::ByNumbers::as_many))]
 fn count(list: &[Expression]) -> usize
-    ensures { result ≡ count_of (listed (map expression_tree list.now)) }
+    ensures { result ≡ count_of (listed (map expr_of list.now)) }
 {
     list.len()
 }

@@ -1,10 +1,11 @@
 ghost use Rattle.std.specs.Prelude.{◌≡◌, ◌++◌, map, option_map, Some, IfOk, OnOk};
-ghost use Rattle.mpl_body_code.specs.Codes.{count_of_flows, expression_code, flow_code, passed_code, target_code, whole_slot};
-ghost use Rattle.mpl_body_code.specs.Scopes.{Slot, class_found};
-ghost use Rattle.mpl_plain.specs.ExpressionTrees.{expression_tree, tree_name};
-ghost use Rattle.mpl_plain.specs.FlowTrees.{call_tree, flow_tree, listed};
+ghost use Rattle.mpl_plain.specs.Arity.{count_of};
+ghost use Rattle.mpl_body_code.specs.Codes.{expression_code, flow_code, passed_code, target_code, slot_of_name};
+ghost use Rattle.mpl_mean.specs.Plain.Scopes.{Slot, class_found};
+ghost use Rattle.mpl_mean.specs.Plain.Expr.{expr_of, expr_of_call, expr_of_flow, listed};
+ghost use Rattle.mpl_plain.specs.ExprMeaning.{tree_name};
+ghost use Rattle.mpl_body_image.specs.Internal.RowCodes.{all_flows_code};
 ghost use Rattle.mpl_body_image.specs.Internal.ByNumber.{object_by, own_by, regular_by};
-ghost use Rattle.mpl_body_image.specs.Internal.LevelTrees.{all_flows_code};
 ghost use Rattle.mpl_body_image.specs.Internal.SeenClasses.{class_seen};
 ghost use Rattle.mpl_body_image.specs.Internal.SeenScope.{env_seen, found_seen};
 
@@ -19,7 +20,7 @@ use mpl_value::NoMemory;
 
 #[cycle(flow)]
 pub fn flow<'o, 'a>(scope: &Scope<'o, 'a>, code: &mut Code, node: &'a Flow) -> Result<(), NoMemory>
-    ensures { OnOk result (code.new ≡ code.old ++ flow_code (env_seen scope.now) (flow_tree node.now)) }
+    ensures { OnOk result (code.new ≡ code.old ++ flow_code (env_seen scope.now) (expr_of_flow node.now)) }
 {
     match node {
         Flow::OfCall(_, inner) => call(scope, code, inner.get()),
@@ -33,7 +34,7 @@ fn pass<'o, 'a>(
     code: &mut Code,
     node: &'a Expression,
 ) -> Result<(), NoMemory>
-    ensures { OnOk result (code.new ≡ code.old ++ passed_code (whole_slot (env_seen scope.now) (tree_name (expression_tree node.now))) (expression_code (env_seen scope.now) (expression_tree node.now))) }
+    ensures { OnOk result (code.new ≡ code.old ++ passed_code (slot_of_name (env_seen scope.now) (tree_name (expr_of node.now))) (expression_code (env_seen scope.now) (expr_of node.now))) }
 {
     match whole_number(scope, whole_name(node)) {
         Some(number) => code.push(Instruction::Pass(number)),
@@ -43,7 +44,7 @@ fn pass<'o, 'a>(
 
 /// The number of the variable that a name is, if it is one.
 fn whole_number<'o, 'a>(scope: &Scope<'o, 'a>, name: Option<&'a [u8]>) -> Option<usize>
-    ensures { result ≡ option_map (λ (slot : Slot). slot.number) (whole_slot (env_seen scope.now) (option_map (λ name. name.now) name.entry)) }
+    ensures { result ≡ option_map (λ (slot : Slot). slot.number) (slot_of_name (env_seen scope.now) (option_map (λ name. name.now) name.entry)) }
 {
     match name {
         Some(name) => match scope.locals.find(name) {
@@ -57,7 +58,7 @@ fn whole_number<'o, 'a>(scope: &Scope<'o, 'a>, name: Option<&'a [u8]>) -> Option
 #[cycle(flow)]
 #[tactic(auto, using(crate::proofs::ByNumbers::own_is))]
 pub fn call<'o, 'a>(scope: &Scope<'o, 'a>, code: &mut Code, node: &'a Call) -> Result<(), NoMemory>
-    ensures { OnOk result (code.new ≡ code.old ++ flow_code (env_seen scope.now) (call_tree node.now)) }
+    ensures { OnOk result (code.new ≡ code.old ++ flow_code (env_seen scope.now) (expr_of_call node.now)) }
 {
     match node {
         Call::OnOwn(_, member, list) => {
@@ -85,7 +86,7 @@ fn on_own<'o, 'a>(
     id: Option<usize>,
     list: &'a [Flow],
 ) -> Result<(), NoMemory>
-    ensures { OnOk result (code.new ≡ code.old ++ own_by id (count_of_flows (listed (map flow_tree list.now))) (all_flows_code (env_seen scope.now) list.now)) }
+    ensures { OnOk result (code.new ≡ code.old ++ own_by id (count_of (listed (map expr_of_flow list.now))) (all_flows_code (env_seen scope.now) list.now)) }
 {
     match id {
         Some(id) => {
@@ -106,7 +107,7 @@ fn on_target<'o, 'a>(
     member: &[u8],
     list: &'a [Flow],
 ) -> Result<(), NoMemory>
-    ensures { OnOk result (code.new ≡ code.old ++ target_code line (option_map found_seen found.entry) (class_found (env_seen scope.now) (option_map found_seen found.entry)) member.now (count_of_flows (listed (map flow_tree list.now))) (all_flows_code (env_seen scope.now) list.now)) }
+    ensures { OnOk result (code.new ≡ code.old ++ target_code line (option_map found_seen found.entry) (class_found (env_seen scope.now) (option_map found_seen found.entry)) member.now (count_of (listed (map expr_of_flow list.now))) (all_flows_code (env_seen scope.now) list.now)) }
 {
     match found {
         Some(found) => match class_found(scope, found) {
@@ -128,7 +129,7 @@ fn on_class<'o, 'a>(
     member: &[u8],
     list: &'a [Flow],
 ) -> Result<(), NoMemory>
-    ensures { OnOk result (code.new ≡ code.old ++ target_code line (Some (found_seen found.entry)) (Some (class_seen class.entry)) member.now (count_of_flows (listed (map flow_tree list.now))) (all_flows_code (env_seen scope.now) list.now)) }
+    ensures { OnOk result (code.new ≡ code.old ++ target_code line (Some (found_seen found.entry)) (Some (class_seen class.entry)) member.now (count_of (listed (map expr_of_flow list.now))) (all_flows_code (env_seen scope.now) list.now)) }
 {
     let id = member_of(class, member)?;
     if class.is_regular {
@@ -147,7 +148,7 @@ fn on_regular<'o, 'a>(
     id: Option<usize>,
     list: &'a [Flow],
 ) -> Result<(), NoMemory>
-    ensures { OnOk result (code.new ≡ code.old ++ regular_by id (count_of_flows (listed (map flow_tree list.now))) (all_flows_code (env_seen scope.now) list.now)) }
+    ensures { OnOk result (code.new ≡ code.old ++ regular_by id (count_of (listed (map expr_of_flow list.now))) (all_flows_code (env_seen scope.now) list.now)) }
 {
     match id {
         Some(id) => {
@@ -165,7 +166,7 @@ fn on_object<'o, 'a>(
     id: Option<usize>,
     list: &'a [Flow],
 ) -> Result<(), NoMemory>
-    ensures { OnOk result (code.new ≡ code.old ++ object_by id (count_of_flows (listed (map flow_tree list.now))) (all_flows_code (env_seen scope.now) list.now)) }
+    ensures { OnOk result (code.new ≡ code.old ++ object_by id (count_of (listed (map expr_of_flow list.now))) (all_flows_code (env_seen scope.now) list.now)) }
 {
     match id {
         Some(id) => {
@@ -189,7 +190,7 @@ fn flows<'o, 'a>(scope: &Scope<'o, 'a>, code: &mut Code, list: &'a [Flow]) -> Re
 /// How many arguments there are.
 #[tactic(auto, using(crate::proofs::ByNumbers::as_many_flows))]
 fn count(list: &[Flow]) -> usize
-    ensures { result ≡ count_of_flows (listed (map flow_tree list.now)) }
+    ensures { result ≡ count_of (listed (map expr_of_flow list.now)) }
 {
     list.len()
 }

@@ -4,9 +4,9 @@ ghost use Rattle.mpl_ast.specs.declared.program.Declaration.{Declaration};
 ghost use Rattle.mpl_mean.specs.Meaning.BodyMeaning.{main_statements};
 ghost use Rattle.mpl_mean.specs.Meaning.Layout as layout;
 ghost use Rattle.mpl_mean.specs.Meaning.Layout.{classes_of, members_from};
-ghost use Rattle.mpl_plain.specs.StatementTrees.{statement_trees};
+ghost use Rattle.mpl_mean.specs.Plain.Stmt.{stmts_from};
 ghost use Rattle.mpl_body_code.specs.Codes.{body_code, finish_of};
-ghost use Rattle.mpl_body_code.specs.Scopes.{formal_shape};
+ghost use Rattle.mpl_mean.specs.Plain.Scopes.{formal_shape};
 ghost use Rattle.mpl_body_code.specs.SeenImage.{image_seen};
 ghost use Rattle.mpl_body_image.specs.Laid.{class_entries, classes_code, function_entries, functions_code, laid, main_code, main_entry, member_entries, members_code};
 ghost use Rattle.mpl_body_image.specs.Internal.Bodies.{Sees, env_with, is_main, statements_in};
@@ -118,7 +118,7 @@ fn add_body<'o, 'a>(
     formals: &'a [Formal],
     list: &'a [Statement],
 ) -> Result<(), NoMemory>
-    ensures { OnOk result (code.new ≡ code.old ++ body_code (env_with outline.now object.entry formals.now) (statement_trees list.now)) }
+    ensures { OnOk result (code.new ≡ code.old ++ body_code (env_with outline.now object.entry formals.now) (stmts_from list.now)) }
 {
     let mut scope = Scope {
         alloc,

@@ -1,6 +1,6 @@
 ghost use Rattle.std.specs.Prelude.{◌≡◌, ℕ, List, [], ◌∷◌, ◌-◌, drop, length, option_map, slice_get, if◌then◌else◌, OnErr, OnOk};
 ghost use Rattle.std.specs.Str.{bytes_eq};
-ghost use Rattle.mpl_body_code.specs.Scopes.{slot_named};
+ghost use Rattle.mpl_mean.specs.Plain.Scopes.{slot_named};
 ghost use Rattle.mpl_body_image.specs.Internal.SeenLocals.{numbered, shape_seen, slot_seen};
 
 use mpl_ast::statement::TypeName;
@@ -47,7 +47,7 @@ pub struct Locals<'a> {
 
 impl<'a> Model for Locals<'a> {
     ghost use Rattle.std.specs.Prelude.{◌≡◌, List, ℕ};
-    ghost use Rattle.mpl_body_code.specs.Scopes.{Shape};
+    ghost use Rattle.mpl_mean.specs.Plain.Scopes.{Shape};
     ghost use Rattle.mpl_body_image.specs.Internal.SeenLocals.{Hides, newest_first, number_named, numbered, shapes_seen};
 
     ghost Value = { List Shape };

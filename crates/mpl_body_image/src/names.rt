@@ -1,7 +1,8 @@
 ghost use Rattle.std.specs.Prelude.{◌≡◌, option_map};
 ghost use Rattle.mpl_mean.specs.Meaning.CallMeaning.{name_of_target};
-ghost use Rattle.mpl_plain.specs.ExpressionTrees.{expression_tree, tree_name};
-ghost use Rattle.mpl_body_image.specs.Internal.LevelTrees.{conjunction_tree, equality_tree, place_tree, primary_tree, relation_tree, sum_tree, term_tree, unary_tree};
+ghost use Rattle.mpl_mean.specs.FirstForms.ExpressionLevels.{expr_of_conjunction, expr_of_equality, expr_of_primary, expr_of_relation, expr_of_sum, expr_of_term, expr_of_unary};
+ghost use Rattle.mpl_mean.specs.Plain.Expr.{expr_of, expr_of_place};
+ghost use Rattle.mpl_plain.specs.ExprMeaning.{tree_name};
 
 use mpl_ast::expression::{
     Conjunction, Equality, Expression, Place, Primary, Relation, Sum, Target, Term, Unary,
@@ -9,7 +10,7 @@ use mpl_ast::expression::{
 
 /// The name that an expression is, if it is one.
 pub fn whole_name<'a>(node: &'a Expression) -> Option<&'a [u8]>
-    ensures { option_map (λ name. name.now) result ≡ tree_name (expression_tree node.now) }
+    ensures { option_map (λ name. name.now) result ≡ tree_name (expr_of node.now) }
 {
     match node {
         Expression::OneConjunction(_, inner) => conjunction_name(inner),
@@ -18,7 +19,7 @@ pub fn whole_name<'a>(node: &'a Expression) -> Option<&'a [u8]>
 }
 
 fn conjunction_name<'a>(node: &'a Conjunction) -> Option<&'a [u8]>
-    ensures { option_map (λ name. name.now) result ≡ tree_name (conjunction_tree node.now) }
+    ensures { option_map (λ name. name.now) result ≡ tree_name (expr_of_conjunction node.now) }
 {
     match node {
         Conjunction::OneEquality(_, inner) => equality_name(inner),
@@ -27,7 +28,7 @@ fn conjunction_name<'a>(node: &'a Conjunction) -> Option<&'a [u8]>
 }
 
 fn equality_name<'a>(node: &'a Equality) -> Option<&'a [u8]>
-    ensures { option_map (λ name. name.now) result ≡ tree_name (equality_tree node.now) }
+    ensures { option_map (λ name. name.now) result ≡ tree_name (expr_of_equality node.now) }
 {
     match node {
         Equality::OneRelation(_, inner) => relation_name(inner),
@@ -36,7 +37,7 @@ fn equality_name<'a>(node: &'a Equality) -> Option<&'a [u8]>
 }
 
 fn relation_name<'a>(node: &'a Relation) -> Option<&'a [u8]>
-    ensures { option_map (λ name. name.now) result ≡ tree_name (relation_tree node.now) }
+    ensures { option_map (λ name. name.now) result ≡ tree_name (expr_of_relation node.now) }
 {
     match node {
         Relation::OneSum(_, inner) => sum_name(inner),
@@ -45,7 +46,7 @@ fn relation_name<'a>(node: &'a Relation) -> Option<&'a [u8]>
 }
 
 fn sum_name<'a>(node: &'a Sum) -> Option<&'a [u8]>
-    ensures { option_map (λ name. name.now) result ≡ tree_name (sum_tree node.now) }
+    ensures { option_map (λ name. name.now) result ≡ tree_name (expr_of_sum node.now) }
 {
     match node {
         Sum::OneTerm(_, inner) => term_name(inner),
@@ -54,7 +55,7 @@ fn sum_name<'a>(node: &'a Sum) -> Option<&'a [u8]>
 }
 
 fn term_name<'a>(node: &'a Term) -> Option<&'a [u8]>
-    ensures { option_map (λ name. name.now) result ≡ tree_name (term_tree node.now) }
+    ensures { option_map (λ name. name.now) result ≡ tree_name (expr_of_term node.now) }
 {
     match node {
         Term::OneUnary(_, inner) => unary_name(inner),
@@ -63,7 +64,7 @@ fn term_name<'a>(node: &'a Term) -> Option<&'a [u8]>
 }
 
 fn unary_name<'a>(node: &'a Unary) -> Option<&'a [u8]>
-    ensures { option_map (λ name. name.now) result ≡ tree_name (unary_tree node.now) }
+    ensures { option_map (λ name. name.now) result ≡ tree_name (expr_of_unary node.now) }
 {
     match node {
         Unary::OnePrimary(_, inner) => primary_name(inner),
@@ -72,7 +73,7 @@ fn unary_name<'a>(node: &'a Unary) -> Option<&'a [u8]>
 }
 
 fn primary_name<'a>(node: &'a Primary) -> Option<&'a [u8]>
-    ensures { option_map (λ name. name.now) result ≡ tree_name (primary_tree node.now) }
+    ensures { option_map (λ name. name.now) result ≡ tree_name (expr_of_primary node.now) }
 {
     match node {
         Primary::Read(_, place) => place_name(place.get()),
@@ -87,7 +88,7 @@ fn primary_name<'a>(node: &'a Primary) -> Option<&'a [u8]>
 }
 
 fn place_name<'a>(node: &'a Place) -> Option<&'a [u8]>
-    ensures { option_map (λ name. name.now) result ≡ tree_name (place_tree node.now) }
+    ensures { option_map (λ name. name.now) result ≡ tree_name (expr_of_place node.now) }
 {
     match node {
         Place::Whole(_, target) => target_name(target),

@@ -1,7 +1,8 @@
 ghost use Rattle.std.specs.Prelude.{◌≡◌, ℕ, Some, option_map, IfOk};
 ghost use Rattle.mpl_mean.specs.Meaning.Layout.{Member, member_named, part_named};
 ghost use Rattle.mpl_mean.specs.Meaning.PlaceMeaning.{is_bool};
-ghost use Rattle.mpl_body_code.specs.Scopes.{base_of_slot, class_found, found_at, found_field, found_name, found_part, slot_named, spot_of};
+ghost use Rattle.mpl_mean.specs.Plain.Scopes.{class_found, found_at, found_field, found_name, found_part, slot_named};
+ghost use Rattle.mpl_body_code.specs.Scopes.{base_of_slot, spot_of};
 ghost use Rattle.mpl_body_image.specs.Internal.SeenClasses.{class_seen};
 ghost use Rattle.mpl_body_image.specs.Internal.SeenLocals.{slot_seen};
 ghost use Rattle.mpl_body_image.specs.Internal.SeenParts.{part_seen};

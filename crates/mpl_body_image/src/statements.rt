@@ -1,10 +1,9 @@
-ghost use Rattle.std.specs.Prelude.{◌≡◌, suc, [], ◌∷◌, ◌++◌, length, OnOk};
-ghost use Rattle.mpl_body_code.specs.Codes.{body_code, declarator_code, declares, expression_code, loop_code, statement_code};
+ghost use Rattle.std.specs.Prelude.{◌≡◌, suc, [], ◌∷◌, ◌++◌, length, option_map, OnOk};
+ghost use Rattle.mpl_mean.specs.Plain.Scopes.{declares};
+ghost use Rattle.mpl_body_code.specs.Codes.{body_code, expression_code, flow_code, local_code, loop_code, statement_code};
 ghost use Rattle.mpl_body_code.specs.declared.instruction.Instruction.TheVariants as instruction;
-ghost use Rattle.mpl_plain.specs.ExpressionTrees.{expression_tree};
-ghost use Rattle.mpl_plain.specs.FlowTrees.{call_tree, flow_tree};
-ghost use Rattle.mpl_plain.specs.StatementTrees as tree;
-ghost use Rattle.mpl_plain.specs.StatementTrees.{declarator_tree, local_tree, start_tree, statement_tree, statement_trees, step_tree};
+ghost use Rattle.mpl_mean.specs.Plain.Expr.{expr_of, expr_of_call, expr_of_flow};
+ghost use Rattle.mpl_mean.specs.Plain.Stmt.{Calls, Within, assigns, if_any, locals, new_local, starts, stmt_of, stmts_from};
 ghost use Rattle.mpl_body_image.specs.Internal.SeenScope.{env_seen};
 ghost use Rattle.mpl_body_image.specs.Internal.Writing.{Wrote, WroteAll, WroteCode, left};
 
@@ -26,7 +25,7 @@ pub fn body<'o, 'a>(
     code: &mut Code,
     list: &'a [Statement],
 ) -> Result<(), NoMemory>
-    ensures { OnOk result (code.new ≡ code.old ++ body_code (env_seen scope.old) (statement_trees list.now)) }
+    ensures { OnOk result (code.new ≡ code.old ++ body_code (env_seen scope.old) (stmts_from list.now)) }
 {
     statements(scope, code, list)?;
     code.push(Instruction::End)
@@ -38,7 +37,7 @@ fn statements<'o, 'a>(
     code: &mut Code,
     list: &'a [Statement],
 ) -> Result<(), NoMemory>
-    ensures { OnOk result (WroteAll (env_seen scope.old) (statement_trees list.now) code.old code.new (env_seen scope.new)) }
+    ensures { OnOk result (WroteAll (env_seen scope.old) (stmts_from list.now) code.old code.new (env_seen scope.new)) }
 {
     for node in list {
         statement(scope, code, node)?;
@@ -47,13 +46,12 @@ fn statements<'o, 'a>(
 }
 
 #[cycle(statement)]
-#[tactic(auto, using(crate::proofs::Blocks::assignment_behind))]
 fn statement<'o, 'a>(
     scope: &mut Scope<'o, 'a>,
     code: &mut Code,
     node: &'a Statement,
 ) -> Result<(), NoMemory>
-    ensures { OnOk result (Wrote (env_seen scope.old) (statement_tree node.now) code.old code.new (env_seen scope.new)) }
+    ensures { OnOk result (Wrote (env_seen scope.old) (stmt_of node.now) code.old code.new (env_seen scope.new)) }
 {
     let count = scope.locals.len();
     match node {
@@ -107,7 +105,7 @@ fn within<'o, 'a>(
     code: &mut Code,
     block: &'a Block,
 ) -> Result<(), NoMemory>
-    ensures { OnOk result (WroteCode (env_seen scope.old) (statement_code (env_seen scope.old) (tree.Within (statement_trees block.now.statements))) code.old code.new (env_seen scope.new)) }
+    ensures { OnOk result (WroteCode (env_seen scope.old) (statement_code (env_seen scope.old) (Within (stmts_from block.now.statements))) code.old code.new (env_seen scope.new)) }
 {
     let count = scope.locals.len();
     statements(scope, code, block.statements.as_slice())?;
@@ -127,7 +125,7 @@ fn call_alone<'o, 'a>(
     code: &mut Code,
     node: &'a Call,
 ) -> Result<(), NoMemory>
-    ensures { OnOk result (code.new ≡ code.old ++ statement_code (env_seen scope.now) (tree.CallAlone (call_tree node.now))) }
+    ensures { OnOk result (code.new ≡ code.old ++ statement_code (env_seen scope.now) (Calls (expr_of_call node.now))) }
 {
     call(scope, code, node)?;
     code.push(Instruction::Drop)
@@ -139,7 +137,7 @@ fn give<'o, 'a>(
     line: u32,
     value: &'a Flow,
 ) -> Result<(), NoMemory>
-    ensures { OnOk result (code.new ≡ code.old ++ statement_code (env_seen scope.now) (tree.Rtf line (flow_tree value.now))) }
+    ensures { OnOk result (code.new ≡ code.old ++ (flow_code (env_seen scope.now) (expr_of_flow value.now) ++ instruction.Give line ∷ [])) }
 {
     flow(scope, code, value)?;
     code.push(Instruction::Give(line))
@@ -151,7 +149,7 @@ fn when<'o, 'a>(
     test: &'a Expression,
     inner: &Code,
 ) -> Result<(), NoMemory>
-    ensures { OnOk result (code.new ≡ code.old ++ (expression_code (env_seen scope.now) (expression_tree test.now) ++ instruction.Unless (length inner.now) ∷ inner.now)) }
+    ensures { OnOk result (code.new ≡ code.old ++ (expression_code (env_seen scope.now) (expr_of test.now) ++ instruction.Unless (length inner.now) ∷ inner.now)) }
 {
     expression(scope, code, test)?;
     code.push(Instruction::Unless(inner.len()))?;
@@ -165,7 +163,7 @@ fn either<'o, 'a>(
     inner: &Code,
     other: &Code,
 ) -> Result<(), NoMemory>
-    ensures { OnOk result (code.new ≡ code.old ++ (expression_code (env_seen scope.now) (expression_tree test.now) ++ instruction.Unless (suc (length inner.now)) ∷ (inner.now ++ instruction.Skip (length other.now) ∷ other.now))) }
+    ensures { OnOk result (code.new ≡ code.old ++ (expression_code (env_seen scope.now) (expr_of test.now) ++ instruction.Unless (suc (length inner.now)) ∷ (inner.now ++ instruction.Skip (length other.now) ∷ other.now))) }
 {
     expression(scope, code, test)?;
     code.push(Instruction::Unless(inner.len() + 1))?;
@@ -180,7 +178,7 @@ fn loop_with<'o, 'a>(
     test: &'a Expression,
     inner: &Code,
 ) -> Result<(), NoMemory>
-    ensures { OnOk result (code.new ≡ code.old ++ loop_code (expression_code (env_seen scope.now) (expression_tree test.now)) inner.now) }
+    ensures { OnOk result (code.new ≡ code.old ++ loop_code (expression_code (env_seen scope.now) (expr_of test.now)) inner.now) }
 {
     let mut first = Code::new(scope.alloc);
     expression(scope, &mut first, test)?;
@@ -193,7 +191,7 @@ fn start<'o, 'a>(
     code: &mut Code,
     head: &'a ForHead,
 ) -> Result<(), NoMemory>
-    ensures { OnOk result (Wrote (env_seen scope.old) (start_tree head.now.start) code.old code.new (env_seen scope.new)) }
+    ensures { OnOk result (Wrote (env_seen scope.old) (if_any (option_map starts head.now.start)) code.old code.new (env_seen scope.new)) }
 {
     match &head.start {
         Some(ForStart::Declare(local)) => declare(scope, code, local),
@@ -204,7 +202,7 @@ fn start<'o, 'a>(
 
 /// What a `for` does after each turn.
 fn step<'o, 'a>(scope: &Scope<'o, 'a>, code: &mut Code, head: &'a ForHead) -> Result<(), NoMemory>
-    ensures { OnOk result (code.new ≡ code.old ++ statement_code (env_seen scope.now) (step_tree head.now.step)) }
+    ensures { OnOk result (code.new ≡ code.old ++ statement_code (env_seen scope.now) (if_any (option_map assigns head.now.step))) }
 {
     match &head.step {
         Some(assignment) => assign(scope, code, assignment),
@@ -227,7 +225,7 @@ fn declare<'o, 'a>(
     code: &mut Code,
     local: &'a Local,
 ) -> Result<(), NoMemory>
-    ensures { OnOk result (Wrote (env_seen scope.old) (local_tree local.now) code.old code.new (env_seen scope.new)) }
+    ensures { OnOk result (Wrote (env_seen scope.old) (locals local.now) code.old code.new (env_seen scope.new)) }
 {
     for declarator in local.declarators.as_slice() {
         declare_one(scope, code, &local.type_name, declarator)?;
@@ -241,7 +239,7 @@ fn declare_one<'o, 'a>(
     type_name: &'a TypeName,
     declarator: &'a Declarator,
 ) -> Result<(), NoMemory>
-    ensures { OnOk result (WroteCode (declares type_name.now (declarator_tree declarator.now) (env_seen scope.old)) (declarator_code (env_seen scope.old) type_name.now (declarator_tree declarator.now)) code.old code.new (env_seen scope.new)) }
+    ensures { OnOk result (WroteCode (declares type_name.now (new_local declarator.now) (env_seen scope.old)) (local_code (env_seen scope.old) type_name.now (new_local declarator.now)) code.old code.new (env_seen scope.new)) }
 {
     match declarator {
         Declarator::Plain(_, name, dimension) => {

@@ -8,7 +8,7 @@ use Rattle.mpl_ast.specs.declared.program.Declaration.TheVariants as declaration
 use Rattle.mpl_ast.specs.declared.statement.Statement.{Statement}
 use Rattle.mpl_mean.specs.Meaning.BodyMeaning.{of_object}
 use Rattle.mpl_mean.specs.Meaning.Layout.{Class, parts_of}
-use Rattle.mpl_body_code.specs.Scopes.{Env, formal_shape}
+use Rattle.mpl_mean.specs.Plain.Scopes.{Env, formal_shape}
 use Rattle.mpl_body_image.specs.Internal.SeenScope.{members_seen, parts_seen}
 use Rattle.mpl_body_image.specs.declared.scope.Object.{Object}
 

@@ -2,7 +2,7 @@
 use Rattle.std.specs.Prelude.{◌≡◌, ℕ, List, [], ◌∷◌, length, map, reverse, Option, Some, None, if◌then◌else◌}
 use Rattle.std.specs.HashMap.{get_by}
 use Rattle.std.specs.Str.{bytes_eq}
-use Rattle.mpl_body_code.specs.Scopes as code
+use Rattle.mpl_mean.specs.Plain.Scopes as code
 use Rattle.mpl_body_image.specs.declared.locals.Local.{Local}
 use Rattle.mpl_body_image.specs.declared.locals.Newest.{Newest}
 use Rattle.mpl_body_image.specs.declared.locals.Shape.{Shape}

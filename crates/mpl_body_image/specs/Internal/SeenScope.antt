@@ -2,7 +2,7 @@
 use Rattle.std.specs.Prelude.{List, [], map, option_map, Option, Some, None}
 use Rattle.std.specs.Borrow.{Bor}
 use Rattle.mpl_mean.specs.Meaning.Layout.{Member, Part}
-use Rattle.mpl_body_code.specs.Scopes as code
+use Rattle.mpl_mean.specs.Plain.Scopes as code
 use Rattle.mpl_body_image.specs.Internal.SeenClasses.{class_seen}
 use Rattle.mpl_body_image.specs.Internal.SeenLocals.{slot_seen}
 use Rattle.mpl_body_image.specs.Internal.SeenParts.{part_seen}

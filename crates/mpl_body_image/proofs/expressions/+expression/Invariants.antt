@@ -1,5 +1,5 @@
 use Rattle.std.proofs.Common.{◌≡◌, ◌++◌, drop}
-use Rattle.mpl_body_image.specs.Internal.LevelTrees.{all_code}
+use Rattle.mpl_body_image.specs.Internal.RowCodes.{all_code}
 use Rattle.mpl_body_image.specs.Internal.SeenScope.{env_seen}
 use Rattle.mpl_body_image.proofs.expressions.+expression.Given as goal
 

@@ -1,5 +1,5 @@
 use Rattle.std.proofs.Common.{◌≡◌, ◌≤◌, drop, length, map}
-use Rattle.mpl_body_code.specs.Scopes.{formal_shape}
+use Rattle.mpl_mean.specs.Plain.Scopes.{formal_shape}
 use Rattle.mpl_body_image.proofs.image.locals_of.Given as goal
 
 abbrev pub invariant-loop-left : goal.invariant-loop-left

@@ -1,6 +1,6 @@
 use Rattle.std.proofs.Common.{ap, sym, ◌∙◌}
 use Rattle.std.specs.Prelude.{slice_get}
-use Rattle.mpl_body_code.specs.Scopes.{slot_named}
+use Rattle.mpl_mean.specs.Plain.Scopes.{slot_named}
 use Rattle.mpl_body_image.proofs.Variables.{found_nowhere, found_there, not_named}
 use Rattle.mpl_body_image.proofs.locals.Locals.find.Goals as goal
 
