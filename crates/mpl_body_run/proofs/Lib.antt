@@ -1,3 +1,4 @@
+pub mod StackLists
 pub mod SlotLists
 pub mod WordLists
 pub mod TakenArguments

@@ -1,6 +1,7 @@
 -- What variables hold, where the newest is the last of a list.
-use Rattle.std.proofs.Common.{◌≡◌, ◌≤◌, ℕ, zero, suc, ◌-◌, Bool, true, false, List, [], ◌∷◌, ◌++◌, length, map, reverse, take, drop, Option, Some, None, if◌then◌else◌, refl, ap, ap₂, sym, arith, ⊎_elim, ◌∙◌}
+use Rattle.std.proofs.Common.{◌≡◌, ◌≤◌, ◌<◌, ℕ, zero, suc, ◌-◌, Bool, true, false, List, [], ◌∷◌, ◌++◌, length, get_or, map, reverse, take, drop, Option, Some, None, if◌then◌else◌, refl, ap, ap₂, sym, arith, ⊎_elim, ◌∙◌}
 use Rattle.std.proofs.lemmas.List.{length-append, length-drop, length-map, length-reverse, map-append, reverse-append, take-append-drop}
+use Rattle.std.proofs.lemmas.Option.{slice_get-get_or, slice_get_past}
 use Rattle.std.proofs.Math.Seq.{drop-append_seam}
 use Rattle.std.specs.Prelude.{nat_eq, slice_get, slice_set}
 use Rattle.std.proofs.lemmas.Bool.{eq-eqb, ne_eqb}
@@ -56,6 +57,12 @@ held_seen [] n = refl
 held_seen (h ∷ all) zero = ap (held 0) (reverse_cons (arg_seen h) (map arg_seen all)) ∙ held_oldest (arg_seen h) (slots_seen all)
 held_seen (h ∷ all) (suc n) = ap (held (suc n)) (reverse_cons (arg_seen h) (map arg_seen all)) ∙ held_newer n (arg_seen h) (slots_seen all) ∙ held_seen all n
 
+pub held_within : (all : List Holds) (n : ℕ) (d : Holds) → n < length all → held n (slots_seen all) ≡ arg_seen (get_or all n d)
+held_within all n d less = held_seen all n ∙ ap seen_or (slice_get-get_or all n d less)
+
+pub held_past : (all : List Holds) (n : ℕ) → length all ≤ n → held n (slots_seen all) ≡ arg.Unknown
+held_past all n past = held_seen all n ∙ ap seen_or (slice_get_past all n past)
+
 pub put_seen : (all : List Holds) (n : ℕ) (h : Holds) → slots_seen (slice_set all n h) ≡ put_held n (arg_seen h) (slots_seen all)
 put_seen [] n h = refl
 put_seen (x ∷ all) zero h =
@@ -74,6 +81,24 @@ put_past (x ∷ all) (suc n) a h =
     ∙ put_newer n a (arg_seen x) (slots_seen all)
     ∙ ap (λ rest. rest ++ arg_seen x ∷ []) (put_past all n a (let b : suc (length all) ≤ suc n = h in omega arith))
     ∙ sym (reverse_cons (arg_seen x) (map arg_seen all))
+
+put_length : (n : ℕ) (b : Arg) (all : List Arg) → length (put_held n b all) ≡ length all
+put_length n b [] = refl
+put_length n b (h ∷ older) = chosen (nat_eq n (length older)) (put_length n b older) where
+  chosen : (t : Bool) → length (put_held n b older) ≡ length older → length (if t then b ∷ older else h ∷ put_held n b older) ≡ suc (length older)
+  chosen true same = refl
+  chosen false same = ap suc same
+
+pub put_twice : (n : ℕ) (a b : Arg) (all : List Arg) → put_held n a (put_held n b all) ≡ put_held n a all
+put_twice n a b [] = refl
+put_twice n a b (h ∷ older) = chosen (nat_eq n (length older)) refl (put_length n b older) (put_twice n a b older) where
+  chosen : (t : Bool) → nat_eq n (length older) ≡ t → length (put_held n b older) ≡ length older → put_held n a (put_held n b older) ≡ put_held n a older
+      → put_held n a (if t then b ∷ older else h ∷ put_held n b older) ≡ (if t then a ∷ older else h ∷ put_held n a older)
+  chosen true e same rest = ap (λ t. if t then a ∷ older else b ∷ put_held n a older) e
+  chosen false e same rest =
+      ap (λ k. if nat_eq n k then a ∷ put_held n b older else h ∷ put_held n a (put_held n b older)) same
+      ∙ ap (λ t. if t then a ∷ put_held n b older else h ∷ put_held n a (put_held n b older)) e
+      ∙ ap (λ all. h ∷ all) rest
 
 pub leave_seen : (all : List Holds) (count : ℕ) → slots_seen (take count all) ≡ drop (length (slots_seen all) - count) (slots_seen all)
 leave_seen all count =

@@ -1,6 +1,7 @@
 -- What the machine in the code stands for, and what became of its steps.
 use Rattle.std.specs.Prelude.{◌≡◌, List, map, reverse, Result, Ok, Err}
 use Rattle.mpl_body_code.specs.Machine.{Body, Caller, Frame, Machine, Next, Goes, OfPlain, OfRegular, ended, finished, returned}
+use Rattle.mpl_body_run.specs.SeenItems.{words_seen}
 use Rattle.mpl_body_run.specs.declared.leaves.Leaves.{Leaves}
 use Rattle.mpl_body_run.specs.declared.leaves.Leaves.TheVariants as leaves
 use Rattle.mpl_body_run.specs.declared.machine.Body as raw_body
@@ -40,5 +41,5 @@ abbrev pub Came : Next → Machine → Result (Unit {0}) Leaves → Type 0
 Came next x (Ok u) = next ≡ Goes x
 Came next x (Err (leaves.Ends e)) = next ≡ ended x.callers e x.body x.turns
 Came next x (Err leaves.Finishes) = next ≡ finished x.callers x.body x.turns
-Came next x (Err (leaves.Returns words)) = next ≡ returned words x.callers x.body x.turns
+Came next x (Err (leaves.Returns words)) = next ≡ returned (words_seen words) x.callers x.body x.turns
 Came next x (Err leaves.NoMemory) = Unit {0}

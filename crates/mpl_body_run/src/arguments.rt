@@ -5,6 +5,7 @@ ghost use Rattle.mpl_body_code.specs.Steps.{answers, onward, top_of};
 ghost use Rattle.mpl_body_run.specs.SeenItems.{arg_seen, item_seen};
 
 use crate::stack::{Holds, Slots, Stack};
+use crate::word_list::owned;
 use mpl_value::{Arg, Args, NoMemory, Trap, Words};
 use std::alloc::Global;
 use std::marker::Model;
@@ -120,7 +121,7 @@ fn passed(alloc: Global, item: Holds) -> Result<Arg, NoMemory>
             words.push(word)?;
             Ok(Arg::Know(words))
         }
-        Holds::Words(words, _) => Ok(Arg::Know(words)),
+        Holds::Words(words, _) => Ok(Arg::Know(owned(words)?)),
         Holds::Trapped(trap) => Ok(Arg::Trapped(trap)),
         Holds::Unknown => Ok(Arg::Unknown),
     }

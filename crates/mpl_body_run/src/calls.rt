@@ -14,6 +14,7 @@ use crate::machine::{Body, Caller, Frame, Input, Machine};
 use crate::perform::first_word;
 use crate::setting::Setting;
 use crate::stack::{Holds, Slots, Stack};
+use crate::word_list::as_item;
 use mpl_body_code::{Finish, FunctionCode, MemberCode};
 use mpl_value::{BodyEnd, BodyResult, Bytes, CallMade, Calls, Known, MemberId, NoMemory, Words};
 use std::alloc::Global;
@@ -21,6 +22,7 @@ use std::mem;
 
 impl Machine {
     /// A plain function is called.
+    #[inline(never)]
     pub fn call_plain(
         &mut self,
         setting: &Setting,
@@ -67,6 +69,7 @@ impl Machine {
     }
 
     /// A member of a regular class is called.
+    #[inline(never)]
     pub fn call_regular(
         &mut self,
         setting: &Setting,
@@ -120,6 +123,7 @@ impl Machine {
     }
 
     /// A member is called on the object below its arguments.
+    #[inline(never)]
     pub fn call_object(
         &mut self,
         setting: &Setting,
@@ -135,7 +139,7 @@ impl Machine {
         match self.frame.stack.pop() {
             Some(Holds::Word(object, _)) => self.call_member(setting, member, arguments, object),
             Some(Holds::Words(words, _)) => {
-                let object = first_word(&words);
+                let object = first_word(words.as_ref());
                 self.call_member(setting, member, arguments, object)
             }
             Some(Holds::Trapped(_)) => Err(Leaves::Ends(BodyEnd::Waits)),
@@ -199,7 +203,7 @@ fn reply(setting: &Setting, is_answered: bool, call: u32) -> Result<Holds, NoMem
         return Ok(Holds::Unknown);
     }
     match setting.replies.get(call) {
-        Some(Known::Value(words)) => Ok(Holds::Words(words.copy()?, false)),
+        Some(Known::Value(words)) => as_item(setting.alloc, words.copy()?, false),
         Some(Known::Trapped(trap)) => Ok(Holds::Trapped(*trap)),
         None => Ok(Holds::Unknown),
     }

@@ -56,7 +56,7 @@ fn print_item(
             Ok(false)
         }
         Holds::Words(words, is_bool) => {
-            let word = first_word(&words);
+            let word = first_word(words.as_ref());
             print_word(alloc, is_first, word, is_bool, lines)?;
             Ok(false)
         }

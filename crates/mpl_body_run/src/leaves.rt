@@ -1,12 +1,13 @@
-use mpl_value::{BodyEnd, NoMemory, Words};
+use crate::word_list::WordList;
+use mpl_value::{BodyEnd, NoMemory};
 
 /// Why a frame doesn't go on.
-#[derive(Debug, Drop)]
+#[derive(Drop)]
 pub enum Leaves {
     Ends(BodyEnd),
     /// The code comes to its end.
     Finishes,
-    Returns(Words),
+    Returns(WordList),
     NoMemory,
 }
 

@@ -15,6 +15,7 @@ mod stack;
 mod start_machine;
 mod step;
 mod unwind;
+mod word_list;
 
 pub use machine::{Body, Caller, Frame, Input, Machine};
 pub use running::run;

@@ -20,6 +20,7 @@ use mpl_value::{BodyEnd, TrapKind, add, div, mul, neg, rem, sub};
 
 impl Machine {
     /// A number that arithmetic gives, or its trap.
+    #[inline(always)]
     fn computed(&mut self, line: u32, outcome: Result<i64, TrapKind>) -> Result<(), Leaves>
         requires { self.old.frame.place < 2 ^ 64 - 1 }
         ensures { Came (computes (machine_seen self.old) line outcome self.old.frame.stack) (machine_seen self.new) result }
@@ -30,6 +31,7 @@ impl Machine {
         }
     }
 
+    #[inline(always)]
     fn operate(&mut self, line: u32, operator: Operator, a: i64, b: i64) -> Result<(), Leaves>
         requires { self.old.frame.place < 2 ^ 64 - 1 }
         ensures { Came (operates (machine_seen self.old) line operator a b self.old.frame.stack) (machine_seen self.new) result }
@@ -52,6 +54,7 @@ impl Machine {
     }
 
     /// The left operand lies below.
+    #[inline(always)]
     fn operate_on(&mut self, line: u32, operator: Operator, b: i64) -> Result<(), Leaves>
         requires { self.old.frame.place < 2 ^ 64 - 1 }
         ensures { Came (on_value (machine_seen self.old) self.old.frame.stack (λ a below. operates (machine_seen self.old) line operator (word_of a) b below)) (machine_seen self.new) result }
@@ -59,7 +62,7 @@ impl Machine {
         match self.frame.stack.pop() {
             Some(Holds::Word(a, _)) => self.operate(line, operator, a, b),
             Some(Holds::Words(a, _)) => {
-                let a = first_word(&a);
+                let a = first_word(a.as_ref());
                 self.operate(line, operator, a, b)
             }
             Some(Holds::Trapped(_)) => Err(Leaves::Ends(BodyEnd::Waits)),
@@ -68,6 +71,7 @@ impl Machine {
         }
     }
 
+    #[inline(always)]
     pub fn binary(&mut self, line: u32, operator: Operator) -> Result<(), Leaves>
         requires { self.old.frame.place < 2 ^ 64 - 1 }
         ensures { (S : Setting) → Came (performs S (instruction.Binary line operator) (machine_seen self.old)) (machine_seen self.new) result }
@@ -75,7 +79,7 @@ impl Machine {
         match self.frame.stack.pop() {
             Some(Holds::Word(b, _)) => self.operate_on(line, operator, b),
             Some(Holds::Words(b, _)) => {
-                let b = first_word(&b);
+                let b = first_word(b.as_ref());
                 self.operate_on(line, operator, b)
             }
             Some(Holds::Trapped(_)) => Err(Leaves::Ends(BodyEnd::Waits)),
@@ -101,7 +105,7 @@ impl Machine {
         match self.frame.stack.pop() {
             Some(Holds::Word(a, _)) => self.operate_alone(line, operator, a),
             Some(Holds::Words(a, _)) => {
-                let a = first_word(&a);
+                let a = first_word(a.as_ref());
                 self.operate_alone(line, operator, a)
             }
             Some(Holds::Trapped(_)) => Err(Leaves::Ends(BodyEnd::Waits)),
@@ -111,6 +115,7 @@ impl Machine {
     }
 
     /// The array lies below its index.
+    #[inline(never)]
     fn index_at(&mut self, line: u32, i: i64) -> Result<(), Leaves>
         requires { self.old.frame.place < 2 ^ 64 - 1 }
         ensures { Came (on_value (machine_seen self.old) self.old.frame.stack (λ a below. indexed (machine_seen self.old) line (index_below (length a.words) i) (λ n. onward (machine_seen self.old) (words_item (slice_index_or a.words n (pos 0) ∷ []) a.is_bool ∷ below)))) (machine_seen self.new) result }
@@ -123,7 +128,7 @@ impl Machine {
                     Err(trap(TrapKind::Index, line))
                 }
             }
-            Some(Holds::Words(words, is_bool)) => match element(words.as_slice(), i) {
+            Some(Holds::Words(words, is_bool)) => match element(words.as_ref().as_slice(), i) {
                 Some(word) => self.onward(Holds::Word(word, is_bool)),
                 None => Err(trap(TrapKind::Index, line)),
             },
@@ -140,7 +145,7 @@ impl Machine {
         match self.frame.stack.pop() {
             Some(Holds::Word(i, _)) => self.index_at(line, i),
             Some(Holds::Words(i, _)) => {
-                let i = first_word(&i);
+                let i = first_word(i.as_ref());
                 self.index_at(line, i)
             }
             Some(Holds::Trapped(_)) => Err(Leaves::Ends(BodyEnd::Waits)),
@@ -150,6 +155,7 @@ impl Machine {
     }
 }
 
+#[inline(always)]
 fn is_equal(operator: EqualityOperator, a: i64, b: i64) -> bool
     ensures { result ≡ equality_test operator a b }
 {
@@ -159,6 +165,7 @@ fn is_equal(operator: EqualityOperator, a: i64, b: i64) -> bool
     }
 }
 
+#[inline(always)]
 fn is_related(operator: RelationOperator, a: i64, b: i64) -> bool
     ensures { result ≡ relation_test operator a b }
 {

@@ -17,11 +17,13 @@ use crate::items::{print_items, take_items};
 use crate::leaves::Leaves;
 use crate::machine::Machine;
 use crate::stack::Holds;
+use crate::word_list::{WordList, owned, shared};
 use mpl_value::{BodyEnd, BodyResult, Known, NoMemory, Trap, TrapKind, Words};
 use std::alloc::Global;
 
 impl Machine {
     /// One more item, and the next instruction.
+    #[inline(always)]
     pub fn onward(&mut self, item: Holds) -> Result<(), Leaves>
         requires { self.old.frame.place < 2 ^ 64 - 1 }
         ensures { Came (onward (machine_seen self.old) (item_seen item ∷ self.old.frame.stack)) (machine_seen self.new) result }
@@ -31,11 +33,12 @@ impl Machine {
         Ok(())
     }
 
-    pub fn number(&mut self, number: i64) -> Result<(), Leaves>
+    #[inline(always)]
+    pub fn number(&mut self, number: &i64) -> Result<(), Leaves>
         requires { self.old.frame.place < 2 ^ 64 - 1 }
-        ensures { (S : Setting) → Came (performs S (instruction.Number number) (machine_seen self.old)) (machine_seen self.new) result }
+        ensures { (S : Setting) → Came (performs S (instruction.Number number.now) (machine_seen self.old)) (machine_seen self.new) result }
     {
-        self.onward(Holds::Word(number, false))
+        self.onward(Holds::Word(*number, false))
     }
 
     pub fn truth(&mut self, truth: bool) -> Result<(), Leaves>
@@ -52,6 +55,7 @@ impl Machine {
         self.onward(Holds::Word(self.frame.object, false))
     }
 
+    #[inline(always)]
     pub fn skip(&mut self, count: usize) -> Result<(), Leaves>
         requires { self.old.frame.place + 1 + count < 2 ^ 64 }
         ensures { (S : Setting) → Came (performs S (instruction.Skip count) (machine_seen self.old)) (machine_seen self.new) result }
@@ -60,6 +64,7 @@ impl Machine {
         Ok(())
     }
 
+    #[inline(always)]
     pub fn leave(&mut self, count: usize) -> Result<(), Leaves>
         requires { self.old.frame.place < 2 ^ 64 - 1 }
         ensures { (S : Setting) → Came (performs S (instruction.Leave count) (machine_seen self.old)) (machine_seen self.new) result }
@@ -101,9 +106,11 @@ impl Machine {
         requires { self.old.frame.place < 2 ^ 64 - 1 }
         ensures { (S : Setting) → Came (performs S instruction.Nothing (machine_seen self.old)) (machine_seen self.new) result }
     {
-        self.onward(Holds::Words(Words::new(alloc), false))
+        let none = shared(alloc, Words::new(alloc))?;
+        self.onward(Holds::Words(none, false))
     }
 
+    #[inline(never)]
     pub fn declare(&mut self, alloc: Global, words: usize) -> Result<(), Leaves>
         requires { self.old.frame.place < 2 ^ 64 - 1 }
         ensures { (S : Setting) → Came (performs S (instruction.Declare words) (machine_seen self.old)) (machine_seen self.new) result }
@@ -141,6 +148,7 @@ impl Machine {
         }
     }
 
+    #[inline(always)]
     pub fn again(&mut self, budget: u64, count: usize) -> Result<(), Leaves>
         requires { self.old.turns < 2 ^ 64 - 1 }
         ensures { (S : Setting) → S.turns ≡ budget → Came (performs S (instruction.Again count) (machine_seen self.old)) (machine_seen self.new) result }
@@ -154,6 +162,7 @@ impl Machine {
         }
     }
 
+    #[inline(always)]
     pub fn unless(&mut self, count: usize) -> Result<(), Leaves>
         requires { self.old.frame.place + 1 + count < 2 ^ 64 }
         ensures { (S : Setting) → Came (performs S (instruction.Unless count) (machine_seen self.old)) (machine_seen self.new) result }
@@ -164,7 +173,7 @@ impl Machine {
                 Ok(())
             }
             Some(Holds::Words(words, _)) => {
-                let word = first_word(&words);
+                let word = first_word(words.as_ref());
                 self.frame.place += if word != 0 { 1 } else { 1 + count };
                 Ok(())
             }
@@ -181,7 +190,7 @@ impl Machine {
         match self.frame.stack.pop() {
             Some(Holds::Word(word, _)) => self.decide(word != 0, true, count),
             Some(Holds::Words(words, _)) => {
-                let word = first_word(&words);
+                let word = first_word(words.as_ref());
                 self.decide(word != 0, true, count)
             }
             Some(Holds::Trapped(_)) => Err(Leaves::Ends(BodyEnd::Waits)),
@@ -197,7 +206,7 @@ impl Machine {
         match self.frame.stack.pop() {
             Some(Holds::Word(word, _)) => self.decide(word == 0, false, count),
             Some(Holds::Words(words, _)) => {
-                let word = first_word(&words);
+                let word = first_word(words.as_ref());
                 self.decide(word == 0, false, count)
             }
             Some(Holds::Trapped(_)) => Err(Leaves::Ends(BodyEnd::Waits)),
@@ -227,7 +236,7 @@ impl Machine {
         match self.frame.stack.pop() {
             Some(Holds::Word(word, _)) => self.receive(line, word),
             Some(Holds::Words(words, _)) => {
-                let word = first_word(&words);
+                let word = first_word(words.as_ref());
                 self.receive(line, word)
             }
             Some(Holds::Trapped(_)) => Err(Leaves::Ends(BodyEnd::Waits)),
@@ -271,22 +280,19 @@ impl Machine {
         self.onward(item)
     }
 
-    pub fn return_value(&mut self, alloc: Global) -> Result<(), Leaves>
+    pub fn return_value(&mut self) -> Result<(), Leaves>
         ensures { (S : Setting) → Came (performs S instruction.Return (machine_seen self.old)) (machine_seen self.new) result }
     {
         match self.frame.stack.pop() {
-            Some(Holds::Word(word, _)) => {
-                let mut words = Words::new(alloc);
-                words.push(word)?;
-                Err(Leaves::Returns(words))
-            }
-            Some(Holds::Words(words, _)) => Err(Leaves::Returns(words)),
+            Some(Holds::Word(word, _)) => Err(Leaves::Returns(WordList::One(word))),
+            Some(Holds::Words(words, _)) => Err(Leaves::Returns(WordList::Many(words))),
             Some(Holds::Trapped(_)) => Err(Leaves::Ends(BodyEnd::Waits)),
             Some(Holds::Unknown) => Err(Leaves::Ends(BodyEnd::Waits)),
             None => Err(Leaves::Ends(BodyEnd::Waits)),
         }
     }
 
+    #[inline(never)]
     pub fn input(&mut self, line: u32) -> Result<(), Leaves>
         requires { self.old.frame.place < 2 ^ 64 - 1 }
         ensures { (S : Setting) → Came (performs S (instruction.Input line) (machine_seen self.old)) (machine_seen self.new) result }
@@ -297,23 +303,25 @@ impl Machine {
         }
     }
 
-    pub fn create(&mut self, budget: u64, class: i64) -> Result<(), Leaves>
+    #[inline(never)]
+    pub fn create(&mut self, budget: u64, class: &i64) -> Result<(), Leaves>
         requires within { self.old.frame.place < 2 ^ 64 - 1 }
         requires turns { self.old.turns < 2 ^ 64 - 1 }
         requires number { self.old.frame.number < 2 ^ 31 }
         requires few { length self.old.body.creations < 2 ^ 32 - 1 }
-        ensures { (S : Setting) → S.turns ≡ budget → Came (performs S (instruction.New class) (machine_seen self.old)) (machine_seen self.new) result }
+        ensures { (S : Setting) → S.turns ≡ budget → Came (performs S (instruction.New class.now) (machine_seen self.old)) (machine_seen self.new) result }
     {
         self.turns += 1;
         if self.turns <= budget {
             let word = object_word(self.frame.number, self.body.creations.len() + 1);
-            self.body.creations.push(class)?;
+            self.body.creations.push(*class)?;
             self.onward(Holds::Word(word, false))
         } else {
             Err(Leaves::Ends(BodyEnd::Spent))
         }
     }
 
+    #[inline(never)]
     pub fn give(&mut self, alloc: Global, line: u32) -> Result<(), Leaves>
         requires { self.old.frame.place < 2 ^ 64 - 1 }
         ensures { (S : Setting) → Came (performs S (instruction.Give line) (machine_seen self.old)) (machine_seen self.new) result }
@@ -332,6 +340,7 @@ impl Machine {
         }
     }
 
+    #[inline(never)]
     pub fn print(&mut self, alloc: Global, count: usize) -> Result<(), Leaves>
         requires { self.old.frame.place < 2 ^ 64 - 1 }
         ensures { (S : Setting) → Came (performs S (instruction.Print count) (machine_seen self.old)) (machine_seen self.new) result }
@@ -345,7 +354,8 @@ impl Machine {
     pub fn return_nothing(&mut self, alloc: Global) -> Result<(), Leaves>
         ensures { (S : Setting) → Came (performs S instruction.ReturnNothing (machine_seen self.old)) (machine_seen self.new) result }
     {
-        Err(Leaves::Returns(Words::new(alloc)))
+        let none = shared(alloc, Words::new(alloc))?;
+        Err(Leaves::Returns(WordList::Many(none)))
     }
 
     pub fn end(&mut self) -> Result<(), Leaves>
@@ -383,6 +393,7 @@ fn zeros(alloc: Global, words: usize) -> Result<Holds, NoMemory>
     for done in 0..words {
         all.push(0)?;
     }
+    let all = shared(alloc, all)?;
     Ok(Holds::Words(all, false))
 }
 
@@ -392,7 +403,7 @@ fn copied(holds: &Holds) -> Result<Holds, NoMemory>
 {
     match holds {
         Holds::Word(word, _) => Ok(Holds::Word(*word, false)),
-        Holds::Words(words, _) => Ok(Holds::Words(words.copy()?, false)),
+        Holds::Words(words, _) => Ok(Holds::Words(words.clone()?, false)),
         Holds::Trapped(trap) => Ok(Holds::Trapped(*trap)),
         Holds::Unknown => Ok(Holds::Unknown),
     }
@@ -417,7 +428,7 @@ fn given(alloc: Global, item: Holds) -> Result<BodyResult, NoMemory>
             words.push(word)?;
             Ok(BodyResult::Known(Known::Value(words)))
         }
-        Holds::Words(words, _) => Ok(BodyResult::Known(Known::Value(words))),
+        Holds::Words(words, _) => Ok(BodyResult::Known(Known::Value(owned(words)?))),
         Holds::Trapped(trap) => Ok(BodyResult::Known(Known::Trapped(trap))),
         Holds::Unknown => Ok(BodyResult::Unknown),
     }

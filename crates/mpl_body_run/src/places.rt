@@ -1,34 +1,68 @@
-ghost use Rattle.std.specs.Prelude.{◌≡◌, ◌+◌, ◌-◌, ◌<◌, ◌^◌, ◌∷◌, IfOk, IfSome};
+ghost use Rattle.std.specs.Prelude.{◌≡◌, ◌+◌, ◌-◌, ◌<◌, ◌^◌, ◌∷◌, [], IfOk, IfSome, OnOk};
 ghost use Rattle.mpl_value.specs.Words.{index_below, with_words, words_at};
-ghost use Rattle.mpl_body_code.specs.Machine.{Setting, words_item};
+ghost use Rattle.mpl_body_code.specs.Machine.{Setting, held, put_held, words_item};
 ghost use Rattle.mpl_body_run.specs.Seen.{Came, machine_seen};
-ghost use Rattle.mpl_body_run.specs.SeenItems.{item_seen};
-ghost use Rattle.mpl_body_code.specs.Steps.{indexed, on_value, performs, puts};
+ghost use Rattle.mpl_body_run.specs.SeenItems.{arg_seen, item_seen};
+ghost use Rattle.mpl_value.specs.declared.body.Arg.TheVariants.{Know};
+ghost use Rattle.mpl_body_code.specs.Steps.{forced, indexed, on_value, onward, performs, puts, with_slots};
+ghost use Rattle.mpl_body_code.specs.declared.instruction.Base.TheVariants as base;
 ghost use Rattle.mpl_body_code.specs.declared.instruction.Instruction.TheVariants as instruction;
 
 use crate::leaves::Leaves;
 use crate::machine::Machine;
 use crate::perform::{first_word, trap};
 use crate::stack::Holds;
+use crate::word_list::shared;
 use mpl_body_code::{Base, Spot};
 use mpl_value::{BodyEnd, NoMemory, TrapKind, Words};
 use std::alloc::Global;
+use std::rc::Rc;
 
 impl Machine {
-    pub fn read(&mut self, alloc: Global, spot: Spot) -> Result<(), Leaves>
+    #[inline(always)]
+    pub fn read(&mut self, alloc: Global, spot: &Spot) -> Result<(), Leaves>
         requires { self.old.frame.place < 2 ^ 64 - 1 }
-        ensures { (S : Setting) → Came (performs S (instruction.Read spot) (machine_seen self.old)) (machine_seen self.new) result }
+        ensures { (S : Setting) → Came (performs S (instruction.Read spot.now) (machine_seen self.old)) (machine_seen self.new) result }
     {
-        let item = match spot.base {
-            Base::State => part(alloc, self.body.state.as_slice(), spot)?,
-            Base::Slot(number) => match self.frame.slots.get(number) {
-                Some(Holds::Word(word, _)) => part(alloc, &[*word], spot)?,
-                Some(Holds::Words(words, _)) => part(alloc, words.as_slice(), spot)?,
-                Some(Holds::Trapped(trap)) => return Err(Leaves::Ends(BodyEnd::Trap(*trap))),
-                Some(Holds::Unknown) => return Err(Leaves::Ends(BodyEnd::Waits)),
-                None => return Err(Leaves::Ends(BodyEnd::Waits)),
-            },
-        };
+        match spot.base {
+            Base::State => {
+                let item = part(alloc, self.body.state.as_slice(), spot)?;
+                self.onward(item)
+            }
+            Base::Slot(number) => self.read_slot(alloc, number, spot),
+        }
+    }
+
+    #[inline(always)]
+    fn read_slot(&mut self, alloc: Global, number: usize, spot: &Spot) -> Result<(), Leaves>
+        requires { self.old.frame.place < 2 ^ 64 - 1 }
+        ensures { Came (forced (machine_seen self.old) (held number self.old.frame.slots) (λ words. onward (machine_seen self.old) (words_item (words_at spot.now.offset spot.now.words words) spot.now.is_bool ∷ self.old.frame.stack))) (machine_seen self.new) result }
+    {
+        match self.frame.slots.get(number) {
+            Some(Holds::Word(word, _)) => {
+                let word = *word;
+                self.read_word(alloc, word, spot)
+            }
+            Some(Holds::Words(words, _)) => {
+                let item = part_of_words(alloc, words, spot)?;
+                self.onward(item)
+            }
+            Some(Holds::Trapped(trap)) => Err(Leaves::Ends(BodyEnd::Trap(*trap))),
+            Some(Holds::Unknown) => Err(Leaves::Ends(BodyEnd::Waits)),
+            None => Err(Leaves::Ends(BodyEnd::Waits)),
+        }
+    }
+
+    /// A variable of one word is read.
+    #[inline(always)]
+    fn read_word(&mut self, alloc: Global, word: i64, spot: &Spot) -> Result<(), Leaves>
+        requires { self.old.frame.place < 2 ^ 64 - 1 }
+        ensures { Came (onward (machine_seen self.old) (words_item (words_at spot.now.offset spot.now.words (word ∷ [])) spot.now.is_bool ∷ self.old.frame.stack)) (machine_seen self.new) result }
+    {
+        if spot.offset == 0 && spot.words == 1 {
+            return self.onward(Holds::Word(word, spot.is_bool));
+        }
+        let item = part(alloc, &[word], spot)?;
         self.onward(item)
     }
 
@@ -50,15 +84,15 @@ impl Machine {
         Ok(())
     }
 
-    pub fn put_element(&mut self, alloc: Global, line: u32, spot: Spot) -> Result<(), Leaves>
+    pub fn put_element(&mut self, alloc: Global, line: u32, spot: &Spot) -> Result<(), Leaves>
         requires within { self.old.frame.place < 2 ^ 64 - 1 }
-        requires fits { spot.offset + spot.words < 2 ^ 64 }
-        ensures { (S : Setting) → Came (performs S (instruction.PutElement line spot) (machine_seen self.old)) (machine_seen self.new) result }
+        requires fits { spot.now.offset + spot.now.words < 2 ^ 64 }
+        ensures { (S : Setting) → Came (performs S (instruction.PutElement line spot.now) (machine_seen self.old)) (machine_seen self.new) result }
     {
         match self.frame.stack.pop() {
             Some(Holds::Word(i, _)) => self.put_at(alloc, line, spot, i),
             Some(Holds::Words(i, _)) => {
-                let i = first_word(&i);
+                let i = first_word(i.as_ref());
                 self.put_at(alloc, line, spot, i)
             }
             Some(Holds::Trapped(_)) => Err(Leaves::Ends(BodyEnd::Waits)),
@@ -68,10 +102,10 @@ impl Machine {
     }
 
     /// The value lies below its index.
-    fn put_at(&mut self, alloc: Global, line: u32, spot: Spot, i: i64) -> Result<(), Leaves>
+    fn put_at(&mut self, alloc: Global, line: u32, spot: &Spot, i: i64) -> Result<(), Leaves>
         requires within { self.old.frame.place < 2 ^ 64 - 1 }
-        requires fits { spot.offset + spot.words < 2 ^ 64 }
-        ensures { Came (on_value (machine_seen self.old) self.old.frame.stack (λ value below. indexed (machine_seen self.old) line (index_below spot.words i) (λ n. puts (machine_seen self.old) spot.base (spot.offset + n) value.words below))) (machine_seen self.new) result }
+        requires fits { spot.now.offset + spot.now.words < 2 ^ 64 }
+        ensures { Came (on_value (machine_seen self.old) self.old.frame.stack (λ value below. indexed (machine_seen self.old) line (index_below spot.now.words i) (λ n. puts (machine_seen self.old) spot.now.base (spot.now.offset + n) value.words below))) (machine_seen self.new) result }
     {
         match self.frame.stack.pop() {
             Some(Holds::Word(word, _)) => match index_within(spot.words, i) {
@@ -79,7 +113,12 @@ impl Machine {
                 None => Err(trap(TrapKind::Index, line)),
             },
             Some(Holds::Words(words, _)) => match index_within(spot.words, i) {
-                Some(n) => self.put_words(alloc, spot.base, spot.offset + n, words.as_slice()),
+                Some(n) => self.put_words(
+                    alloc,
+                    spot.base,
+                    spot.offset + n,
+                    words.as_ref().as_slice(),
+                ),
                 None => Err(trap(TrapKind::Index, line)),
             },
             Some(Holds::Trapped(_)) => Err(Leaves::Ends(BodyEnd::Waits)),
@@ -89,6 +128,7 @@ impl Machine {
     }
 
     /// Other words from an offset on.
+    #[inline(always)]
     fn put_words(
         &mut self,
         alloc: Global,
@@ -101,36 +141,62 @@ impl Machine {
     {
         match base {
             Base::State => {
-                self.body.state = stored(alloc, self.body.state.as_slice(), offset, words)?;
+                store(alloc, &mut self.body.state, offset, words)?;
+                self.frame.place += 1;
+                Ok(())
             }
-            Base::Slot(number) => {
-                let after = match self.frame.slots.get(number) {
-                    Some(Holds::Word(word, _)) => stored(alloc, &[*word], offset, words)?,
-                    Some(Holds::Words(before, _)) => stored(
-                        alloc,
-                        before.as_slice(),
-                        offset,
-                        words,
-                    )?,
-                    Some(Holds::Trapped(trap)) => return Err(Leaves::Ends(BodyEnd::Trap(*trap))),
-                    Some(Holds::Unknown) => return Err(Leaves::Ends(BodyEnd::Waits)),
-                    None => return Err(Leaves::Ends(BodyEnd::Waits)),
-                };
-                self.frame.slots.put(number, Holds::Words(after, false));
-            }
+            Base::Slot(number) => self.put_slot(alloc, number, offset, words),
         }
+    }
+
+    /// Other words from an offset of a variable on.
+    #[inline(always)]
+    #[tactic(auto, using(crate::proofs::SlotLists::put_twice))]
+    fn put_slot(
+        &mut self,
+        alloc: Global,
+        number: usize,
+        offset: usize,
+        words: &[i64],
+    ) -> Result<(), Leaves>
+        requires { self.old.frame.place < 2 ^ 64 - 1 }
+        ensures { Came (puts (machine_seen self.old) (base.Slot number) offset words.now self.old.frame.stack) (machine_seen self.new) result }
+    {
+        match self.frame.slots.take(number) {
+            Some(Holds::Word(before, _)) => {
+                let after = stored_in_word(alloc, before, offset, words)?;
+                self.put_back(number, after)
+            }
+            Some(Holds::Words(before, _)) => {
+                let after = stored_in_words(alloc, before, offset, words)?;
+                self.put_back(number, Holds::Words(after, false))
+            }
+            Some(Holds::Trapped(trap)) => Err(Leaves::Ends(BodyEnd::Trap(trap))),
+            Some(Holds::Unknown) => Err(Leaves::Ends(BodyEnd::Waits)),
+            None => Err(Leaves::Ends(BodyEnd::Waits)),
+        }
+    }
+
+    /// A variable holds something again.
+    #[inline(always)]
+    fn put_back(&mut self, number: usize, item: Holds) -> Result<(), Leaves>
+        requires { self.old.frame.place < 2 ^ 64 - 1 }
+        ensures { Came (onward (with_slots (machine_seen self.old) (put_held number (arg_seen item) self.old.frame.slots)) self.old.frame.stack) (machine_seen self.new) result }
+    {
+        self.frame.slots.put(number, item);
         self.frame.place += 1;
         Ok(())
     }
 
-    pub fn put(&mut self, alloc: Global, spot: Spot) -> Result<(), Leaves>
+    #[inline(always)]
+    pub fn put(&mut self, alloc: Global, spot: &Spot) -> Result<(), Leaves>
         requires { self.old.frame.place < 2 ^ 64 - 1 }
-        ensures { (S : Setting) → Came (performs S (instruction.Put spot) (machine_seen self.old)) (machine_seen self.new) result }
+        ensures { (S : Setting) → Came (performs S (instruction.Put spot.now) (machine_seen self.old)) (machine_seen self.new) result }
     {
         match self.frame.stack.pop() {
             Some(Holds::Word(word, _)) => self.put_words(alloc, spot.base, spot.offset, &[word]),
             Some(Holds::Words(words, _)) => {
-                self.put_words(alloc, spot.base, spot.offset, words.as_slice())
+                self.put_words(alloc, spot.base, spot.offset, words.as_ref().as_slice())
             }
             Some(Holds::Trapped(_)) => Err(Leaves::Ends(BodyEnd::Waits)),
             Some(Holds::Unknown) => Err(Leaves::Ends(BodyEnd::Waits)),
@@ -140,6 +206,7 @@ impl Machine {
 }
 
 /// The place of an index, if it lies below the dimension.
+#[inline(always)]
 fn index_within(dimension: usize, i: i64) -> Option<usize>
     ensures is { result ≡ index_below dimension i }
     ensures below { IfSome result (λ n. n < dimension) }
@@ -153,11 +220,12 @@ fn index_within(dimension: usize, i: i64) -> Option<usize>
 
 /// The words of a spot, as a value.
 #[tactic(auto, using(crate::proofs::WordLists::part_one, crate::proofs::WordLists::part_none, crate::proofs::WordLists::part_least))]
-fn part(alloc: Global, words: &[i64], spot: Spot) -> Result<Holds, NoMemory>
-    ensures { IfOk result (λ h. item_seen h ≡ words_item (words_at spot.offset spot.words words.now) spot.is_bool) }
+#[inline(never)]
+fn part(alloc: Global, words: &[i64], spot: &Spot) -> Result<Holds, NoMemory>
+    ensures { IfOk result (λ h. item_seen h ≡ words_item (words_at spot.now.offset spot.now.words words.now) spot.now.is_bool) }
 {
     if spot.offset >= words.len() {
-        return Ok(Holds::Words(Words::new(alloc), spot.is_bool));
+        return Ok(Holds::Words(shared(alloc, Words::new(alloc))?, spot.is_bool));
     }
     if spot.words == 1 {
         return Ok(Holds::Word(words[spot.offset], spot.is_bool));
@@ -165,11 +233,73 @@ fn part(alloc: Global, words: &[i64], spot: Spot) -> Result<Holds, NoMemory>
     let rest = &words[spot.offset..];
     let count = spot.words.min(rest.len());
     let words = Words::from_slice(alloc, &rest[..count])?;
-    Ok(Holds::Words(words, spot.is_bool))
+    Ok(Holds::Words(shared(alloc, words)?, spot.is_bool))
+}
+
+/// The words of a spot, of which all are shared.
+#[inline(never)]
+fn part_of_words(alloc: Global, words: &Rc<Words>, spot: &Spot) -> Result<Holds, NoMemory>
+    ensures { IfOk result (λ h. item_seen h ≡ words_item (words_at spot.now.offset spot.now.words words.now.value) spot.now.is_bool) }
+{
+    let all = words.as_ref();
+    if spot.offset == 0 && spot.words >= all.len() {
+        return Ok(Holds::Words(words.clone()?, spot.is_bool));
+    }
+    part(alloc, all.as_slice(), spot)
+}
+
+/// A variable of one word with others in its place.
+#[inline(always)]
+fn stored_in_word(
+    alloc: Global,
+    before: i64,
+    offset: usize,
+    words: &[i64],
+) -> Result<Holds, NoMemory>
+    ensures { IfOk result (λ h. arg_seen h ≡ Know (with_words offset words.now (before ∷ []))) }
+{
+    if offset == 0 && words.len() == 1 {
+        return Ok(Holds::Word(words[0], false));
+    }
+    let after = stored(alloc, &[before], offset, words)?;
+    Ok(Holds::Words(shared(alloc, after)?, false))
+}
+
+/// Words with others in place of as many, in place where nothing else has them.
+#[inline(never)]
+fn stored_in_words(
+    alloc: Global,
+    before: Rc<Words>,
+    offset: usize,
+    words: &[i64],
+) -> Result<Rc<Words>, NoMemory>
+    ensures { IfOk result (λ after. after.value ≡ with_words offset words.now before.value) }
+{
+    let mut before = before;
+    if let Some(alone) = Rc::get_mut(&mut before) {
+        store(alloc, alone, offset, words)?;
+        return Ok(before);
+    }
+    let after = stored(alloc, before.as_ref().as_slice(), offset, words)?;
+    shared(alloc, after)
+}
+
+/// Words in place of as many from an offset.
+fn store(alloc: Global, all: &mut Words, offset: usize, words: &[i64]) -> Result<(), NoMemory>
+    ensures { OnOk result (all.new ≡ with_words offset words.now all.old) }
+{
+    let length = all.len();
+    if offset <= length && words.len() <= length - offset {
+        all.write(offset, words);
+    } else {
+        *all = stored(alloc, all.as_slice(), offset, words)?;
+    }
+    Ok(())
 }
 
 /// Words in place of as many from an offset.
 #[tactic(auto, using(crate::proofs::WordLists::with_least, crate::proofs::WordLists::with_past))]
+#[inline(never)]
 fn stored(alloc: Global, before: &[i64], offset: usize, words: &[i64]) -> Result<Words, NoMemory>
     ensures { IfOk result (λ all. all ≡ with_words offset words.now before.now) }
 {

@@ -48,9 +48,12 @@ fn go(setting: &Setting, machine: Machine) -> Result<Yield, NoMemory>
 {
     let mut machine = machine;
     loop {
-        match machine.step(setting)? {
-            Some(result) => return Ok(result),
-            None => {}
+        match machine.performed(setting) {
+            Ok(()) => continue,
+            Err(why) => match machine.stop(setting.alloc, why)? {
+                Some(result) => return Ok(result),
+                None => {}
+            },
         }
     }
 }

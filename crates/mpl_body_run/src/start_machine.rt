@@ -6,7 +6,8 @@ ghost use Rattle.mpl_body_run.specs.Splitting.{split_by};
 
 use crate::arguments::take_arguments;
 use crate::machine::{Body, Frame, Input, Machine};
-use crate::stack::{Holds, Slots, Stack};
+use crate::stack::{Slots, Stack};
+use crate::word_list::as_item;
 use mpl_body_code::Finish;
 use mpl_value::{BodyResult, BodyStart, Bytes, Calls, NoMemory, Words};
 use std::alloc::Global;
@@ -21,7 +22,7 @@ pub fn slots_of(alloc: Global, counts: &[usize], words: &[i64]) -> Result<Slots,
     for count in counts {
         let within = (*count).min(rest.len());
         let piece = Words::from_slice(alloc, &rest[..within])?;
-        pieces.push(Holds::Words(piece, false))?;
+        pieces.push(as_item(alloc, piece, false)?)?;
         rest = &rest[within..];
     }
     let arguments = take_arguments(alloc, &mut pieces, counts.len())?;

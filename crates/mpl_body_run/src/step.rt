@@ -20,59 +20,61 @@ use std::mem;
 
 impl Machine {
     /// One instruction of a frame.
-    pub fn perform(&mut self, setting: &Setting, instruction: Instruction) -> Result<(), Leaves>
+    #[inline(always)]
+    pub fn perform(&mut self, setting: &Setting, instruction: &Instruction) -> Result<(), Leaves>
         requires within { self.old.frame.place < 2 ^ 62 }
-        requires fits { numbers_fit instruction ≡ true }
+        requires fits { numbers_fit instruction.now ≡ true }
         requires turns { self.old.turns ≤ setting.now.budget }
         requires budget { setting.now.budget ≤ greatest_budget }
         requires number { self.old.frame.number < 2 ^ 31 }
         requires creations { length self.old.body.creations ≤ self.old.turns }
         requires calls { length self.old.body.calls ≤ self.old.turns }
-        ensures { Came (performs (setting_seen setting.now) instruction (machine_seen self.old)) (machine_seen self.new) result }
+        ensures { Came (performs (setting_seen setting.now) instruction.now (machine_seen self.old)) (machine_seen self.new) result }
     {
         let alloc = setting.alloc;
         let budget = setting.budget;
         match instruction {
             Instruction::Number(number) => self.number(number),
-            Instruction::Truth(truth) => self.truth(truth),
+            Instruction::Truth(truth) => self.truth(*truth),
             Instruction::Own => self.own(),
             Instruction::Nothing => self.nothing(alloc),
-            Instruction::Input(line) => self.input(line),
+            Instruction::Input(line) => self.input(*line),
             Instruction::Read(spot) => self.read(alloc, spot),
-            Instruction::Index(line) => self.index(line),
-            Instruction::CallPlain(function, count) => self.call_plain(setting, function, count),
-            Instruction::Unary(line, operator) => self.unary(line, operator),
-            Instruction::Binary(line, operator) => self.binary(line, operator),
-            Instruction::Or(count) => self.or(count),
-            Instruction::And(count) => self.and(count),
+            Instruction::Index(line) => self.index(*line),
+            Instruction::CallPlain(function, count) => self.call_plain(setting, *function, *count),
+            Instruction::Unary(line, operator) => self.unary(*line, *operator),
+            Instruction::Binary(line, operator) => self.binary(*line, *operator),
+            Instruction::Or(count) => self.or(*count),
+            Instruction::And(count) => self.and(*count),
             Instruction::Wait => Err(Leaves::Ends(BodyEnd::Waits)),
-            Instruction::Declare(words) => self.declare(alloc, words),
+            Instruction::Declare(words) => self.declare(alloc, *words),
             Instruction::Bind => self.bind(),
-            Instruction::Pass(number) => self.pass(number),
-            Instruction::CallRegular(member, count) => self.call_regular(setting, member, count),
-            Instruction::Receiver(line) => self.receiver(line),
-            Instruction::CallObject(member, count) => self.call_object(setting, member, count),
-            Instruction::Hold(number) => self.hold(number),
+            Instruction::Pass(number) => self.pass(*number),
+            Instruction::CallRegular(member, count) => self.call_regular(setting, *member, *count),
+            Instruction::Receiver(line) => self.receiver(*line),
+            Instruction::CallObject(member, count) => self.call_object(setting, *member, *count),
+            Instruction::Hold(number) => self.hold(*number),
             Instruction::Force => self.force(),
             Instruction::Put(spot) => self.put(alloc, spot),
-            Instruction::PutElement(line, spot) => self.put_element(alloc, line, spot),
+            Instruction::PutElement(line, spot) => self.put_element(alloc, *line, spot),
             Instruction::New(class) => self.create(budget, class),
-            Instruction::ForceSpot(spot) => self.force_spot(spot),
+            Instruction::ForceSpot(spot) => self.force_spot(*spot),
             Instruction::Drop => self.drop_top(),
-            Instruction::Unless(count) => self.unless(count),
-            Instruction::Skip(count) => self.skip(count),
-            Instruction::Leave(count) => self.leave(count),
+            Instruction::Unless(count) => self.unless(*count),
+            Instruction::Skip(count) => self.skip(*count),
+            Instruction::Leave(count) => self.leave(*count),
             Instruction::Turn => self.turn(budget),
-            Instruction::Again(count) => self.again(budget, count),
-            Instruction::Print(count) => self.print(alloc, count),
-            Instruction::Give(line) => self.give(alloc, line),
-            Instruction::Return => self.return_value(alloc),
+            Instruction::Again(count) => self.again(budget, *count),
+            Instruction::Print(count) => self.print(alloc, *count),
+            Instruction::Give(line) => self.give(alloc, *line),
+            Instruction::Return => self.return_value(),
             Instruction::ReturnNothing => self.return_nothing(alloc),
             Instruction::End => self.end(),
         }
     }
 
     /// The instruction at the frame's place.
+    #[inline(always)]
     pub fn performed(&mut self, setting: &Setting) -> Result<(), Leaves>
         requires turns { self.old.turns ≤ setting.now.budget }
         requires budget { setting.now.budget ≤ greatest_budget }
@@ -87,20 +89,9 @@ impl Machine {
         }
     }
 
-    /// One step, which is the last where it comes to a yield.
-    pub fn step(&mut self, setting: &Setting) -> Result<Option<Yield>, NoMemory>
-        requires budget { setting.now.budget ≤ greatest_budget }
-        requires small { MachineIsSmall setting.now.budget (machine_seen self.old) }
-        ensures { IfOk result (λ y. MatchOption y (step (setting_seen setting.now) (machine_seen self.old) ≡ machine.Goes (machine_seen self.new)) (λ y. step (setting_seen setting.now) (machine_seen self.old) ≡ machine.Stops y)) }
-    {
-        match self.performed(setting) {
-            Ok(()) => Ok(None),
-            Err(why) => self.stop(setting.alloc, why),
-        }
-    }
-
     /// The frame doesn't go on.
     #[tactic(auto, using(crate::proofs::Unwinding::went))]
+    #[inline(never)]
     pub fn stop(&mut self, alloc: Global, why: Leaves) -> Result<Option<Yield>, NoMemory>
         ensures { IfOk result (λ y. (next : machine.Next) → Came next (machine_seen self.old) (Err why) → MatchOption y (next ≡ machine.Goes (machine_seen self.new)) (λ y. next ≡ machine.Stops y)) }
     {
@@ -127,7 +118,7 @@ fn left(
     ensures { IfOk result (λ next. left why (callers_seen callers.old.items) (body_seen body) turns (next_seen next callers.new.items turns)) }
 {
     match why {
-        Leaves::Ends(at) => ended(callers, at, body, turns),
+        Leaves::Ends(at) => ended(alloc, callers, at, body, turns),
         Leaves::Finishes => finished(alloc, callers, body, turns),
         Leaves::Returns(words) => returned(alloc, words, callers, body, turns),
         Leaves::NoMemory => Err(NoMemory),

@@ -7,11 +7,12 @@ ghost use Rattle.mpl_value.specs.declared.body.BodyEnd.TheVariants as end;
 ghost use Rattle.mpl_body_code.specs.Machine.{Body as Inner, OfRegular, Stops, at_end, at_stop, ended, finished, item_of, resumed, returned, yield_at};
 ghost use Rattle.mpl_body_run.specs.Seen.{body_seen, caller_seen, callers_seen, frame_seen};
 ghost use Rattle.mpl_body_run.specs.SeenEnds.{next_seen};
-ghost use Rattle.mpl_body_run.specs.SeenItems.{item_seen};
+ghost use Rattle.mpl_body_run.specs.SeenItems.{item_seen, words_seen};
 ghost use Rattle.mpl_body_run.specs.declared.machine.Caller.{Caller};
 
 use crate::machine::{Body, Caller, Frame};
 use crate::stack::Holds;
+use crate::word_list::{WordList, as_item};
 use mpl_body_code::Finish;
 use mpl_value::{BodyEnd, BodyResult, Known, NoMemory, Trap, TrapKind, Words, Yield};
 use std::alloc::Global;
@@ -69,14 +70,14 @@ fn open_at(at: BodyEnd) -> BodyResult
 }
 
 /// A result, as the caller gets it.
-fn answer(given: BodyResult) -> Holds
-    ensures { item_seen result ≡ item_of (arg_of_result given) }
+fn answer(alloc: Global, given: BodyResult) -> Result<Holds, NoMemory>
+    ensures { IfOk result (λ h. item_seen h ≡ item_of (arg_of_result given)) }
 {
     match given {
-        BodyResult::Known(Known::Value(words)) => Holds::Words(words, false),
-        BodyResult::Known(Known::Trapped(trap)) => Holds::Trapped(trap),
-        BodyResult::Open => Holds::Unknown,
-        BodyResult::Unknown => Holds::Unknown,
+        BodyResult::Known(Known::Value(words)) => as_item(alloc, words, false),
+        BodyResult::Known(Known::Trapped(trap)) => Ok(Holds::Trapped(trap)),
+        BodyResult::Open => Ok(Holds::Unknown),
+        BodyResult::Unknown => Ok(Holds::Unknown),
     }
 }
 
@@ -134,6 +135,7 @@ fn caller_of(callers: &mut Vec<Caller>) -> Option<(Frame, Body)>
 
 /// A body ends before its end, and with it the plain functions that it is in.
 pub fn ended(
+    alloc: Global,
     callers: &mut Vec<Caller>,
     at: BodyEnd,
     body: Body,
@@ -143,15 +145,16 @@ pub fn ended(
 {
     match at {
         BodyEnd::Spent => Ok(Next::Stops(spent(callers, body, turns))),
-        BodyEnd::Done => interrupted(callers, at, body, turns),
-        BodyEnd::Waits => interrupted(callers, at, body, turns),
-        BodyEnd::Trap(_) => interrupted(callers, at, body, turns),
+        BodyEnd::Done => interrupted(alloc, callers, at, body, turns),
+        BodyEnd::Waits => interrupted(alloc, callers, at, body, turns),
+        BodyEnd::Trap(_) => interrupted(alloc, callers, at, body, turns),
     }
 }
 
 /// The caller goes on where its body isn't spent.
 #[tactic(auto, using(crate::proofs::Unwinding::goes_on))]
 fn interrupted(
+    alloc: Global,
     callers: &mut Vec<Caller>,
     at: BodyEnd,
     body: Body,
@@ -162,7 +165,7 @@ fn interrupted(
 {
     match caller_of(callers) {
         Some((frame, outer)) => {
-            let item = answer(at_stop(body.finish, at, body.result));
+            let item = answer(alloc, at_stop(body.finish, at, body.result))?;
             resumed(frame, item, outer)
         }
         None => Ok(Next::Stops(stopped(at, body, turns))),
@@ -199,10 +202,16 @@ pub fn finished(
     match newest(callers) {
         Some(Caller::OfPlain(_, line, _)) => {
             let kind = TrapKind::NoReply;
-            ended(callers, BodyEnd::Trap(Trap { kind, line }), body, turns)
+            ended(
+                alloc,
+                callers,
+                BodyEnd::Trap(Trap { kind, line }),
+                body,
+                turns,
+            )
         }
         Some(Caller::OfRegular(frame, outer)) => {
-            let item = answer(at_end(alloc, body.finish, body.result));
+            let item = answer(alloc, at_end(alloc, body.finish, body.result))?;
             resumed(frame, item, outer)
         }
         None => Ok(Next::Stops(done(alloc, body, turns))),
@@ -212,19 +221,19 @@ pub fn finished(
 /// A body or a plain function returns, with words or none.
 pub fn returned(
     alloc: Global,
-    words: Words,
+    words: WordList,
     callers: &mut Vec<Caller>,
     body: Body,
     turns: u64,
 ) -> Result<Next, NoMemory>
-    ensures { IfOk result (λ next. returned words (callers_seen callers.old.items) (body_seen body) turns ≡ next_seen next callers.new.items turns) }
+    ensures { IfOk result (λ next. returned (words_seen words) (callers_seen callers.old.items) (body_seen body) turns ≡ next_seen next callers.new.items turns) }
 {
-    match callers.pop() {
+    match newest(callers) {
         Some(Caller::OfPlain(frame, _, is_bool)) => {
-            resumed(frame, Holds::Words(words, is_bool), body)
+            resumed(frame, words.into_item(is_bool), body)
         }
         Some(Caller::OfRegular(frame, outer)) => {
-            let item = answer(at_end(alloc, body.finish, body.result));
+            let item = answer(alloc, at_end(alloc, body.finish, body.result))?;
             resumed(frame, item, outer)
         }
         None => Ok(Next::Stops(done(alloc, body, turns))),

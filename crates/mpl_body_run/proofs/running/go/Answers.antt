@@ -1,5 +1,6 @@
 use Rattle.std.proofs.Common.{suc}
 use Rattle.mpl_body_code.proofs.FallingSteps.{steps_fall}
+use Rattle.mpl_body_code.specs.Steps.{step}
 use Rattle.mpl_body_run.specs.Seen.{machine_seen}
 use Rattle.mpl_body_run.specs.SeenSetting.{setting_seen}
 use Rattle.mpl_body_run.proofs.Performing.{goes_by, stopped_by}
@@ -10,23 +11,36 @@ use Rattle.mpl_body_run.proofs.running.go.Goals as goal
 pub returns-in-Some : goal.returns-in-Some
 returns-in-Some c =
     let S = setting_seen c.args.setting.now in
-    let x = machine_seen c.loop-machine.machine in
-    c.loop-machine.invariant.same 1 c.in-Some.result (last_step S x c.in-Some.result (stopped_by S x (machine_seen c.step.new.self) c.in_ok-result.field-0 c.in-Some.result c.in-Some.is c.in_ok-result.ensures))
+    let x = machine_seen c.loop-why.machine in
+    c.loop-why.invariant.same 1 c.in-Some.result (last_step S x c.in-Some.result (stopped_by S x (machine_seen c.stop.new.self) c.in_ok-result-in-Err.field-0 c.in-Some.result c.in-Some.is (c.in_ok-result-in-Err.ensures (step S x) c.in-Err.ensures)))
 
-pub loop-machine-smaller : goal.loop-machine-smaller
-loop-machine-smaller c =
+pub loop-why-smaller : goal.loop-why-smaller
+loop-why-smaller c =
     let S = setting_seen c.args.setting.now in
-    let x = machine_seen c.loop-machine.machine in
-    let z = machine_seen c.step.new.self in
-    steps_fall S x z (goes_by S x z c.in_ok-result.field-0 c.in-None.is c.in_ok-result.ensures)
+    let x = machine_seen c.loop-why.machine in
+    let z = machine_seen c.stop.new.self in
+    steps_fall S x z (goes_by S x z c.in_ok-result-in-Err.field-0 c.in-None.is (c.in_ok-result-in-Err.ensures (step S x) c.in-Err.ensures))
 
-pub loop-machine-preserved : goal.loop-machine-preserved
-loop-machine-preserved c =
+pub loop-why-preserved : goal.loop-why-preserved
+loop-why-preserved c =
     let S = setting_seen c.args.setting.now in
-    let x = machine_seen c.loop-machine.machine in
-    let z = machine_seen c.step.new.self in
-    let goes = goes_by S x z c.in_ok-result.field-0 c.in-None.is c.in_ok-result.ensures in
+    let x = machine_seen c.loop-why.machine in
+    let z = machine_seen c.stop.new.self in
+    let goes = goes_by S x z c.in_ok-result-in-Err.field-0 c.in-None.is (c.in_ok-result-in-Err.ensures (step S x) c.in-Err.ensures) in
     record {
-      small = stays_small S x z c.loop-machine.invariant.small goes;
-      same = λ n y h. c.loop-machine.invariant.same (suc n) y (one_step S x z n y goes h);
+      small = stays_small S x z c.loop-why.invariant.small goes;
+      same = λ n y h. c.loop-why.invariant.same (suc n) y (one_step S x z n y goes h);
+    }
+
+pub loop-why-smaller-in-Ok : goal.loop-why-smaller-in-Ok
+loop-why-smaller-in-Ok c = steps_fall (setting_seen c.args.setting.now) (machine_seen c.loop-why.machine) (machine_seen c.performed.new.self) c.in-Ok.ensures
+
+pub loop-why-preserved-in-Ok : goal.loop-why-preserved-in-Ok
+loop-why-preserved-in-Ok c =
+    let S = setting_seen c.args.setting.now in
+    let x = machine_seen c.loop-why.machine in
+    let z = machine_seen c.performed.new.self in
+    record {
+      small = stays_small S x z c.loop-why.invariant.small c.in-Ok.ensures;
+      same = λ n y h. c.loop-why.invariant.same (suc n) y (one_step S x z n y c.in-Ok.ensures h);
     }

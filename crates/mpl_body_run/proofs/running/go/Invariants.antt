@@ -8,12 +8,12 @@ use Rattle.mpl_body_run.specs.Small.{MachineIsSmall}
 use Rattle.mpl_body_run.proofs.running.go.Given as goal
 
 -- what it comes to from here it comes to from its start
-abbrev pub invariant-loop-machine : goal.invariant-loop-machine
-invariant-loop-machine l = record {
+abbrev pub invariant-loop-why : goal.invariant-loop-why
+invariant-loop-why l = record {
   small : MachineIsSmall l.setting.budget (machine_seen l.machine);
   same : (n : ℕ) (y : Yield) → exec n (setting_seen l.setting) (machine_seen l.machine) ≡ Some y
       → (m : ℕ) × (exec m (setting_seen l.setting) (machine_seen l.initial.machine) ≡ Some y);
 }
 
-abbrev pub decreases-loop-machine : goal.decreases-loop-machine
-decreases-loop-machine l = steps_left (setting_seen l.setting) (machine_seen l.machine)
+abbrev pub decreases-loop-why : goal.decreases-loop-why
+decreases-loop-why l = steps_left (setting_seen l.setting) (machine_seen l.machine)

@@ -10,9 +10,9 @@ if_ok : {T E : Type 0} {P Q : T → Type 0} (r : Result T E) → ((x : T) → P 
 if_ok (Ok x) f h = f x h
 if_ok (Err e) f h = h
 
-pub returns-in-Some : goal.returns-in-Some
-returns-in-Some c =
-    let item : item_seen c.answer-item.result ≡ item_of (arg_of_result (at_stop c.args.body.finish c.args.at c.args.body.result)) = c.answer-item.ensures ∙ ap (λ r. item_of (arg_of_result r)) c.at_stop.ensures in
+pub returns-in_ok-item-in-Some : goal.returns-in_ok-item-in-Some
+returns-in_ok-item-in-Some c =
+    let item : item_seen c.in_ok-item-in-Some.item ≡ item_of (arg_of_result (at_stop c.args.body.finish c.args.at c.args.body.result)) = c.in_ok-item-in-Some.ensures ∙ ap (λ r. item_of (arg_of_result r)) c.at_stop.ensures in
     if_ok c.resumed.result
     (λ next h.
     c.in-Some.ensures.behind c.args.at (body_seen c.args.body) c.args.turns
