@@ -1,3 +1,4 @@
 pub mod Alike
 mod Sums
 pub mod Turns
+mod Whole

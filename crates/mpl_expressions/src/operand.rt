@@ -6,16 +6,16 @@ ghost use Rattle.mpl_trees.specs.Rows as rows;
 ghost use Rattle.mpl_trees.specs.Taking as taking;
 ghost use Rattle.mpl_ast.specs.declared.token.Mark.TheVariants as mark;
 ghost use Rattle.mpl_reader.specs.Reader.{Took, rest_of};
-ghost use Rattle.mpl_expressions.specs.Internal.Operands.{take_one_primary, take_parenthesized, take_read};
+ghost use Rattle.mpl_expressions.specs.Internal.Operands.{pieces_behind, take_one_primary, take_parenthesized, take_read};
 ghost use Rattle.mpl_folds.specs.Row.{TookRow};
 
 use crate::lead::lead;
 use crate::targets::{mark_of, number, target, word};
 use mpl_ast::expression::{Expression, Place, Primary, Unary, UnaryOperator};
 use mpl_ast::token::{Mark, TokenKind};
-use mpl_folds::{Row, whole_row};
-use mpl_reader::ahead::{second, sees_mark};
-use mpl_reader::{Reader, Stop};
+use mpl_folds::{Row, lone_operand, whole_row};
+use mpl_reader::ahead::{second, sees_mark, sees_operator};
+use mpl_reader::{Reader, Stop, short_list};
 use mpl_trees::piece::{Piece, Sign};
 use sqlite_items::{Boxed, Items};
 use std::alloc::Global;
@@ -25,19 +25,28 @@ use std::alloc::Global;
 pub fn expression(alloc: Global, reader: &mut Reader<'_>, depth: usize) -> Result<Expression, Stop>
     ensures { Took (spec.take_expression depth) (rest_of reader.old) result (rest_of reader.new) }
 {
+    let turns = reader.left.len();
     let start = reader.here();
-    let row = pieces(alloc, reader, depth)?;
+    let first = piece(alloc, reader, depth, 6, None)?;
+    if !sees_operator(reader.left) {
+        return lone_operand(start, first);
+    }
+    let row = pieces(alloc, reader, depth, turns, first)?;
     whole_row(alloc, start, row)
 }
 
-/// The operands of an expression, in a row.
+/// The operands of an expression, in a row: the first, and those behind it, at most so many.
 #[cycle(expression)]
-fn pieces(alloc: Global, reader: &mut Reader<'_>, depth: usize) -> Result<Row, Stop>
-    ensures { TookRow (rows.take_pieces (spec.take_unary depth)) (rest_of reader.old) result (rest_of reader.new) }
+fn pieces(
+    alloc: Global,
+    reader: &mut Reader<'_>,
+    depth: usize,
+    turns: usize,
+    first: Piece,
+) -> Result<Row, Stop>
+    ensures { TookRow (pieces_behind (spec.take_unary depth) turns first) (rest_of reader.old) result (rest_of reader.new) }
 {
-    let turns = reader.left.len();
     let mut row = Row::new(alloc);
-    let first = piece(alloc, reader, depth, 6, None)?;
     row.push(first)?;
     for _turn in 0..turns {
         let Some(joint) = reader.joint() else {
@@ -201,7 +210,7 @@ pub fn expressions(
     ensures { Took (taking.some_of (spec.take_expression depth)) (rest_of reader.old) result (rest_of reader.new) }
 {
     let turns = reader.left.len();
-    let mut list = Items::new(alloc);
+    let mut list = short_list(alloc)?;
     let first = expression(alloc, reader, depth)?;
     list.push(first)?;
     for _turn in 0..turns {

@@ -243,7 +243,7 @@ pub fn whole_row(alloc: Global, start: Start, mut row: Row) -> Result<Expression
     chained::<Disjunctions>(alloc, 5, start, &mut row)
 }
 
-struct Terms;
+pub(crate) struct Terms;
 
 impl Grade for Terms {
     type Part = Unary;
@@ -286,7 +286,7 @@ impl Grade for Terms {
     }
 }
 
-struct Sums;
+pub(crate) struct Sums;
 
 impl Grade for Sums {
     type Part = Term;
@@ -322,7 +322,7 @@ impl Grade for Sums {
     }
 }
 
-struct Relations;
+pub(crate) struct Relations;
 
 impl Grade for Relations {
     type Part = Sum;
@@ -366,7 +366,7 @@ impl Grade for Relations {
     }
 }
 
-struct Equalities;
+pub(crate) struct Equalities;
 
 impl Grade for Equalities {
     type Part = Relation;
@@ -408,7 +408,7 @@ impl Grade for Equalities {
     }
 }
 
-struct Conjunctions;
+pub(crate) struct Conjunctions;
 
 impl Grade for Conjunctions {
     type Part = Equality;
@@ -449,7 +449,7 @@ impl Grade for Conjunctions {
     }
 }
 
-struct Disjunctions;
+pub(crate) struct Disjunctions;
 
 impl Grade for Disjunctions {
     type Part = Conjunction;

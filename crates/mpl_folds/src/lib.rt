@@ -2,5 +2,7 @@
 #![tactic(auto)]
 
 mod fold;
+mod lone;
 
 pub use fold::{Row, whole_row};
+pub use lone::lone_operand;

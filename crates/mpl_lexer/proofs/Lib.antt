@@ -3,3 +3,4 @@ pub mod Numbers
 pub mod Words
 pub mod Steps
 pub mod Places
+mod Candidates

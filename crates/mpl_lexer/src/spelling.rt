@@ -1,70 +1,68 @@
-ghost use Rattle.std.specs.Prelude.{◌≡◌, find, nat_eq};
+ghost use Rattle.std.specs.Prelude.{◌≡◌, ℕ, List, ◌∷◌, find, nat_eq};
 ghost use Rattle.std.specs.List.{starts_with};
 ghost use Rattle.std.specs.Str.{bytes_eq};
 ghost use Rattle.mpl_mean.specs.Text.TokenTable.{keywords, keyword_spelling, marks, mark_spelling};
 
 use mpl_ast::token::{Keyword, Mark};
 
-const KEYWORDS: [Keyword; 27] = [
-    Keyword::Accept,
-    Keyword::Bool,
-    Keyword::Class,
-    Keyword::Control,
-    Keyword::Create,
-    Keyword::Else,
-    Keyword::False,
-    Keyword::For,
-    Keyword::Guard,
-    Keyword::If,
-    Keyword::Input,
-    Keyword::Int,
-    Keyword::Mentat,
-    Keyword::Persistent,
-    Keyword::Print,
-    Keyword::Priority,
-    Keyword::Private,
-    Keyword::Public,
-    Keyword::Regular,
-    Keyword::Return,
-    Keyword::Rtf,
-    Keyword::Select,
-    Keyword::Own,
-    Keyword::Struct,
-    Keyword::True,
-    Keyword::Void,
-    Keyword::While,
-];
+/// The keywords that begin with the byte.
+fn keywords_from(first: u8) -> &'static [Keyword]
+    ensures { (rest : List ℕ) → find (λ k. bytes_eq (keyword_spelling k) (first ∷ rest)) keywords ≡ find (λ k. bytes_eq (keyword_spelling k) (first ∷ rest)) result.now }
+{
+    match first {
+        b'a' => &[Keyword::Accept],
+        b'b' => &[Keyword::Bool],
+        b'c' => &[Keyword::Class, Keyword::Control, Keyword::Create],
+        b'e' => &[Keyword::Else],
+        b'f' => &[Keyword::False, Keyword::For],
+        b'g' => &[Keyword::Guard],
+        b'i' => &[Keyword::If, Keyword::Input, Keyword::Int],
+        b'm' => &[Keyword::Mentat],
+        b'p' => &[
+            Keyword::Persistent,
+            Keyword::Print,
+            Keyword::Priority,
+            Keyword::Private,
+            Keyword::Public,
+        ],
+        b'r' => &[Keyword::Regular, Keyword::Return, Keyword::Rtf],
+        b's' => &[Keyword::Select, Keyword::Own, Keyword::Struct],
+        b't' => &[Keyword::True],
+        b'v' => &[Keyword::Void],
+        b'w' => &[Keyword::While],
+        _ => &[],
+    }
+}
 
-/// A mark stands behind the longer marks that it begins.
-const MARKS: [Mark; 27] = [
-    Mark::LessEqual,
-    Mark::GreaterEqual,
-    Mark::EqualEqual,
-    Mark::NotEqual,
-    Mark::AndAnd,
-    Mark::OrOr,
-    Mark::PlusPlus,
-    Mark::MinusMinus,
-    Mark::OpenBrace,
-    Mark::CloseBrace,
-    Mark::OpenParenthesis,
-    Mark::CloseParenthesis,
-    Mark::OpenBracket,
-    Mark::CloseBracket,
-    Mark::Semicolon,
-    Mark::Comma,
-    Mark::Dot,
-    Mark::Colon,
-    Mark::Assign,
-    Mark::Plus,
-    Mark::Minus,
-    Mark::Star,
-    Mark::Slash,
-    Mark::Percent,
-    Mark::Less,
-    Mark::Greater,
-    Mark::Not,
-];
+/// The marks that begin with the byte. A mark stands behind the longer marks that it begins.
+fn marks_from(first: u8) -> &'static [Mark]
+    ensures { (rest : List ℕ) → find (λ m. starts_with nat_eq (first ∷ rest) (mark_spelling m)) marks ≡ find (λ m. starts_with nat_eq (first ∷ rest) (mark_spelling m)) result.now }
+{
+    match first {
+        b'<' => &[Mark::LessEqual, Mark::Less],
+        b'>' => &[Mark::GreaterEqual, Mark::Greater],
+        b'=' => &[Mark::EqualEqual, Mark::Assign],
+        b'!' => &[Mark::NotEqual, Mark::Not],
+        b'&' => &[Mark::AndAnd],
+        b'|' => &[Mark::OrOr],
+        b'+' => &[Mark::PlusPlus, Mark::Plus],
+        b'-' => &[Mark::MinusMinus, Mark::Minus],
+        b'{' => &[Mark::OpenBrace],
+        b'}' => &[Mark::CloseBrace],
+        b'(' => &[Mark::OpenParenthesis],
+        b')' => &[Mark::CloseParenthesis],
+        b'[' => &[Mark::OpenBracket],
+        b']' => &[Mark::CloseBracket],
+        b';' => &[Mark::Semicolon],
+        b',' => &[Mark::Comma],
+        b'.' => &[Mark::Dot],
+        b':' => &[Mark::Colon],
+        b'*' => &[Mark::Star],
+        b'/' => &[Mark::Slash],
+        b'%' => &[Mark::Percent],
+        _ => &[],
+    }
+}
 
 fn keyword_spelling(keyword: Keyword) -> &'static [u8]
     ensures { result.now ≡ keyword_spelling keyword }
@@ -134,22 +132,38 @@ pub(crate) fn mark_spelling(mark: Mark) -> &'static [u8]
     }
 }
 
+/// The keyword among these that is spelled so.
+fn spelled(among: &[Keyword], text: &[u8]) -> Option<Keyword>
+    ensures { result ≡ find (λ k. bytes_eq (keyword_spelling k) text.now) among.now }
+{
+    among
+        .iter()
+        .copied()
+        .find(|keyword| keyword_spelling(*keyword) == text)
+}
+
 /// The keyword that is spelled so.
 pub(crate) fn keyword(text: &[u8]) -> Option<Keyword>
     ensures { result ≡ find (λ k. bytes_eq (keyword_spelling k) text.now) keywords }
 {
-    KEYWORDS
+    let (first, _) = text.split_first()?;
+    spelled(keywords_from(*first), text)
+}
+
+/// The first mark among these that stands at the front.
+fn standing(among: &[Mark], bytes: &[u8]) -> Option<Mark>
+    ensures { result ≡ find (λ m. starts_with nat_eq bytes.now (mark_spelling m)) among.now }
+{
+    among
         .iter()
         .copied()
-        .find(|keyword| keyword_spelling(*keyword) == text)
+        .find(|mark| bytes.starts_with(mark_spelling(*mark)))
 }
 
 /// The longest mark at the front.
 pub(crate) fn mark(bytes: &[u8]) -> Option<Mark>
     ensures { result ≡ find (λ m. starts_with nat_eq bytes.now (mark_spelling m)) marks }
 {
-    MARKS
-        .iter()
-        .copied()
-        .find(|mark| bytes.starts_with(mark_spelling(*mark)))
+    let (first, _) = bytes.split_first()?;
+    standing(marks_from(*first), bytes)
 }

@@ -6,11 +6,11 @@ use Rattle.mpl_trees.specs.Taking.{fitting, inner}
 use Rattle.mpl_trees.specs.declared.piece.Start.{Start}
 use Rattle.mpl_reader.specs.Reader.{most_number}
 
-within : (n : _) → n < 2 ^ 32 → nat_le n most_number ≡ true
+pub within : (n : _) → n < 2 ^ 32 → nat_le n most_number ≡ true
 unfolding most_number
 within n h = grind (arith, nat_tests)
 
-above : (n : _) → 2 ^ 32 ≤ n → nat_le n most_number ≡ false
+pub above : (n : _) → 2 ^ 32 ≤ n → nat_le n most_number ≡ false
 unfolding most_number
 above n h = grind (arith, nat_tests)
 

@@ -1,7 +1,9 @@
 //! Tests of the tokens that come.
 
-ghost use Rattle.std.specs.Prelude.{◌≡◌};
+ghost use Rattle.std.specs.Prelude.{◌≡◌, ℕ, List, is_some};
+ghost use Rattle.mpl_ast.specs.declared.token.Token.{Token};
 ghost use Rattle.mpl_mean.specs.Text.Reading as reading;
+ghost use Rattle.mpl_trees.specs.Rows.{joint_of, take_joint};
 ghost use Rattle.mpl_trees.specs.Taking as spec;
 ghost use Rattle.mpl_trees.specs.Ahead as spec_ahead;
 ghost use Rattle.mpl_trees.specs.Expressions.{past_field, second};
@@ -30,6 +32,15 @@ fn has_name(token: &Token) -> bool
     ensures { result ≡ spec.is_any_name token.now.kind }
 {
     matches!(token.kind, TokenKind::Name(_))
+}
+
+fn has_operator(token: &Token) -> bool
+    ensures { (tokens : List Token) (next : ℕ) → result ≡ is_some (joint_of token.now.kind token.now tokens next) }
+{
+    match token.kind {
+        TokenKind::Mark(mark) => level_of(mark).is_some(),
+        _ => false,
+    }
 }
 
 pub fn sees_mark(tokens: &[Token], mark: Mark) -> bool
@@ -81,6 +92,16 @@ pub fn level_of(mark: Mark) -> Option<u32>
         Mark::AndAnd => Some(4),
         Mark::OrOr => Some(5),
         _ => None,
+    }
+}
+
+/// An operator between operands comes.
+pub fn sees_operator(tokens: &[Token]) -> bool
+    ensures { (last next : ℕ) → result ≡ is_some (take_joint (record { tokens = tokens.now; last = last; next = next })) }
+{
+    match tokens {
+        [token, ..] => has_operator(token),
+        [] => false,
     }
 }
 

@@ -2,8 +2,10 @@
 #![tactic(auto)]
 
 pub mod ahead;
+mod list;
 mod reader;
 mod stop;
 
+pub use list::short_list;
 pub use reader::{Joint, Reader};
 pub use stop::Stop;

@@ -1,8 +1,9 @@
 use Rattle.std.proofs.Common.{◌≡◌, ◌+◌, ◌-◌, ◌*◌, ◌≤◌}
 use Rattle.mpl_trees.specs.Expressions.{take_expression, take_unary}
-use Rattle.mpl_trees.specs.Rows.{more_pieces, take_pieces}
+use Rattle.mpl_trees.specs.Rows.{more_pieces}
 use Rattle.mpl_trees.specs.Taking.{more_of, some_of}
 use Rattle.mpl_reader.specs.Reader.{most_number, rest_of}
+use Rattle.mpl_expressions.specs.Internal.Operands.{pieces_behind}
 use Rattle.mpl_expressions.proofs.Turns.{behind}
 use Rattle.mpl_expressions.proofs.operand.+expression.Given as goal
 
@@ -60,4 +61,4 @@ invariant-expressions-loop-turn l =
 
 abbrev pub invariant-pieces-loop-turn : goal.invariant-pieces-loop-turn
 invariant-pieces-loop-turn l =
-    take_pieces (take_unary l.depth) most_number (rest_of l.fn.reader) ≡ behind l.row.pieces.items (more_pieces (take_unary l.depth) (l.turns - l._turn) most_number (rest_of l.reader))
+    pieces_behind (take_unary l.depth) l.turns l.fn.first most_number (rest_of l.fn.reader) ≡ behind l.row.pieces.items (more_pieces (take_unary l.depth) (l.turns - l._turn) most_number (rest_of l.reader))
