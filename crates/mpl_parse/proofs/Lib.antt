@@ -1,3 +1,4 @@
 pub mod Declarations
 pub mod Depths
 mod Taken
+mod Pushed

@@ -1,2 +1,3 @@
 -- What private functions say of their results. No public contract cites it.
 pub mod Forms
+pub mod Onto

@@ -16,7 +16,7 @@ use mpl_ast::statement::Block;
 use mpl_ast::token::{Keyword, Mark, TokenKind};
 use mpl_ast::{Name, Number};
 use mpl_reader::ahead::{second, sees_keyword, sees_mark};
-use mpl_reader::{Reader, Stop};
+use mpl_reader::{Reader, Stop, short_list};
 use sqlite_items::Items;
 use std::alloc::Global;
 
@@ -34,7 +34,7 @@ fn field_names(alloc: Global, reader: &mut Reader<'_>) -> Result<Items<FieldName
     ensures { Took (taking.some_of spec.take_field_name) (rest_of reader.old) result (rest_of reader.new) }
 {
     let turns = reader.left.len();
-    let mut list = Items::new(alloc);
+    let mut list = short_list(alloc)?;
     let first = field_name(alloc, reader)?;
     list.push(first)?;
     for _turn in 0..turns {
@@ -74,7 +74,7 @@ fn formal_list(alloc: Global, reader: &mut Reader<'_>) -> Result<Items<Formal>, 
     ensures { Took (taking.some_of spec.take_formal) (rest_of reader.old) result (rest_of reader.new) }
 {
     let turns = reader.left.len();
-    let mut list = Items::new(alloc);
+    let mut list = short_list(alloc)?;
     let first = formal(alloc, reader)?;
     list.push(first)?;
     for _turn in 0..turns {
@@ -196,7 +196,7 @@ fn entry(alloc: Global, reader: &mut Reader<'_>) -> Result<Entry, Stop>
 fn entries(alloc: Global, reader: &mut Reader<'_>, turns: usize) -> Result<Items<Entry>, Stop>
     ensures { Took (taking.all_of spec.take_entry turns) (rest_of reader.old) result (rest_of reader.new) }
 {
-    let mut list = Items::new(alloc);
+    let mut list = short_list(alloc)?;
     for _turn in 0..turns {
         if sees_mark(reader.left, Mark::CloseBrace) {
             return Ok(list);

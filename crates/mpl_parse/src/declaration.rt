@@ -13,14 +13,14 @@ use mpl_ast::program::{Declaration, Program};
 use mpl_ast::token::{Keyword, Mark, Token, TokenKind};
 use mpl_ast::{At, Name, Span};
 use mpl_reader::ahead::sees_mark;
-use mpl_reader::{Reader, Stop};
+use mpl_reader::{Reader, Stop, short_list};
 use sqlite_items::Items;
 use std::alloc::Global;
 
 fn fields(alloc: Global, reader: &mut Reader<'_>, turns: usize) -> Result<Items<Field>, Stop>
     ensures { Took (taking.all_of spec.take_field turns) (rest_of reader.old) result (rest_of reader.new) }
 {
-    let mut list = Items::new(alloc);
+    let mut list = short_list(alloc)?;
     for _turn in 0..turns {
         if sees_mark(reader.left, Mark::CloseBrace) {
             return Ok(list);
@@ -57,7 +57,7 @@ fn structure(alloc: Global, reader: &mut Reader<'_>) -> Result<Declaration, Stop
 fn items(alloc: Global, reader: &mut Reader<'_>, turns: usize) -> Result<Items<Item>, Stop>
     ensures { Took (taking.all_of spec.take_item turns) (rest_of reader.old) result (rest_of reader.new) }
 {
-    let mut list = Items::new(alloc);
+    let mut list = short_list(alloc)?;
     for _turn in 0..turns {
         if sees_mark(reader.left, Mark::CloseBrace) {
             return Ok(list);
@@ -158,7 +158,7 @@ fn declarations(
 ) -> Result<Items<Declaration>, Stop>
     ensures { Took (spec.take_declarations turns) (rest_of reader.old) result (rest_of reader.new) }
 {
-    let mut list = Items::new(alloc);
+    let mut list = short_list(alloc)?;
     for _turn in 0..turns {
         if reader.left.is_empty() {
             return Ok(list);

@@ -13,7 +13,7 @@ use mpl_ast::flow::{Assignment, Call, Flow};
 use mpl_ast::token::{Keyword, Mark, Token, TokenKind};
 use mpl_expressions::{expression, field, place, variable};
 use mpl_reader::ahead::{past_field, second, sees_mark};
-use mpl_reader::{Reader, Stop};
+use mpl_reader::{Reader, Stop, short_list};
 use sqlite_items::{Boxed, Items};
 use std::alloc::Global;
 
@@ -169,7 +169,7 @@ fn flows(alloc: Global, reader: &mut Reader<'_>, depth: usize) -> Result<Items<F
     ensures { Took (taking.some_of (spec.take_flow depth)) (rest_of reader.old) result (rest_of reader.new) }
 {
     let turns = reader.left.len();
-    let mut list = Items::new(alloc);
+    let mut list = short_list(alloc)?;
     let first = flow(alloc, reader, depth)?;
     list.push(first)?;
     for _turn in 0..turns {

@@ -6,6 +6,7 @@ mod declaration;
 mod flow;
 mod head;
 mod local;
+mod onto;
 mod parser;
 mod simple;
 mod statement;

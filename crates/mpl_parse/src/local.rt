@@ -11,7 +11,7 @@ use crate::flow::flow;
 use mpl_ast::statement::{Declarator, Dimension, Local, TypeName};
 use mpl_ast::token::{Keyword, Mark, TokenKind};
 use mpl_reader::ahead::sees_mark;
-use mpl_reader::{Reader, Stop};
+use mpl_reader::{Reader, Stop, short_list};
 use sqlite_items::Items;
 use std::alloc::Global;
 
@@ -101,7 +101,7 @@ fn declarators(
     ensures { Took (taking.some_of (spec.take_declarator (take_flow depth))) (rest_of reader.old) result (rest_of reader.new) }
 {
     let turns = reader.left.len();
-    let mut list = Items::new(alloc);
+    let mut list = short_list(alloc)?;
     let first = declarator(alloc, reader, depth)?;
     list.push(first)?;
     for _turn in 0..turns {

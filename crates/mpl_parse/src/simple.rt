@@ -1,19 +1,23 @@
 //! The statements in which no statement stands.
 
-ghost use Rattle.std.specs.Prelude.{◌≡◌};
+ghost use Rattle.std.specs.Prelude.{◌≡◌, true, Some};
+ghost use Rattle.mpl_ast.specs.declared.statement.Statement.{Statement};
+ghost use Rattle.mpl_ast.specs.declared.token.TokenKind.TheVariants as kind;
 ghost use Rattle.mpl_trees.specs.Expressions.{take_expression};
 ghost use Rattle.mpl_trees.specs.Flows.{take_flow};
 ghost use Rattle.mpl_trees.specs.Statements as spec;
 ghost use Rattle.mpl_trees.specs.Taking as taking;
+ghost use Rattle.mpl_trees.specs.Taking.{Takes};
 ghost use Rattle.mpl_reader.specs.Reader.{Skipped, Took, rest_of};
-ghost use Rattle.mpl_parse.specs.Internal.Forms.{creation, take_assign, take_call_alone, take_create_statement, take_empty, take_value_if_any};
+ghost use Rattle.mpl_parse.specs.Internal.Forms.{creation, take_assign, take_call_alone, take_create_statement, take_empty, take_value_if_any, statement_of};
+ghost use Rattle.mpl_parse.specs.Internal.Onto.{is_plain};
 
 use crate::flow::{assignment, begins_call, call, called, flow};
 use crate::local::local;
 use mpl_ast::expression::{Expression, Target};
 use mpl_ast::flow::Flow;
 use mpl_ast::statement::Statement;
-use mpl_ast::token::{Keyword, Mark, Token};
+use mpl_ast::token::{Keyword, Mark, Token, TokenKind};
 use mpl_expressions::{expression, expressions};
 use mpl_reader::ahead::{past_field, second, sees_keyword, sees_mark, sees_name};
 use mpl_reader::{Reader, Stop};
@@ -30,6 +34,41 @@ pub fn test(alloc: Global, reader: &mut Reader<'_>, depth: usize) -> Result<Expr
     Ok(test)
 }
 
+/// A statement in which no statement stands.
+pub fn plain(alloc: Global, reader: &mut Reader<'_>, depth: usize) -> Result<Statement, Stop>
+    ensures { (statement : Takes Statement) → is_plain (taking.ahead reader.old.left.now) ≡ true → Took (statement_of depth statement) (rest_of reader.old) result (rest_of reader.new) }
+{
+    let [token, ..] = reader.left else {
+        return Err(Stop::Stuck);
+    };
+    match token.kind {
+        TokenKind::Name(_) => named(alloc, reader, depth),
+        TokenKind::Number(_) => Err(Stop::Stuck),
+        TokenKind::Keyword(word) => worded(alloc, reader, depth, word),
+        TokenKind::Mark(Mark::Semicolon) => empty(reader),
+        TokenKind::Mark(_) => Err(Stop::Stuck),
+    }
+}
+
+/// What begins with a keyword.
+fn worded(
+    alloc: Global,
+    reader: &mut Reader<'_>,
+    depth: usize,
+    word: Keyword,
+) -> Result<Statement, Stop>
+    ensures { (statement : Takes Statement) → is_plain (Some (kind.Keyword word)) ≡ true → Took (spec.statement_at depth statement (Some (kind.Keyword word))) (rest_of reader.old) result (rest_of reader.new) }
+{
+    match word {
+        Keyword::Int | Keyword::Bool => declared(alloc, reader, depth),
+        Keyword::Own => call_alone(alloc, reader, depth),
+        Keyword::Print => print(alloc, reader, depth),
+        Keyword::Rtf => rtf(alloc, reader, depth),
+        Keyword::Return => returned(alloc, reader, depth),
+        _ => Err(Stop::Stuck),
+    }
+}
+
 /// `.create` stands behind a variable or a field.
 fn begins_create(tokens: &[Token]) -> bool
     ensures { result ≡ spec.begins_create tokens.now }
@@ -41,7 +80,7 @@ fn begins_create(tokens: &[Token]) -> bool
 }
 
 /// A statement that begins with a name.
-pub fn named(alloc: Global, reader: &mut Reader<'_>, depth: usize) -> Result<Statement, Stop>
+fn named(alloc: Global, reader: &mut Reader<'_>, depth: usize) -> Result<Statement, Stop>
     ensures { Took (spec.named_statement depth) (rest_of reader.old) result (rest_of reader.new) }
 {
     if sees_name(second(reader.left)) {
@@ -55,7 +94,7 @@ pub fn named(alloc: Global, reader: &mut Reader<'_>, depth: usize) -> Result<Sta
     }
 }
 
-pub fn declared(alloc: Global, reader: &mut Reader<'_>, depth: usize) -> Result<Statement, Stop>
+fn declared(alloc: Global, reader: &mut Reader<'_>, depth: usize) -> Result<Statement, Stop>
     ensures { Took (spec.declared_statement depth) (rest_of reader.old) result (rest_of reader.new) }
 {
     let start = reader.start()?;
@@ -92,7 +131,7 @@ fn creation(reader: &mut Reader<'_>) -> Result<(), Stop>
     reader.mark(Mark::Semicolon)
 }
 
-pub fn call_alone(alloc: Global, reader: &mut Reader<'_>, depth: usize) -> Result<Statement, Stop>
+fn call_alone(alloc: Global, reader: &mut Reader<'_>, depth: usize) -> Result<Statement, Stop>
     ensures { Took (take_call_alone depth) (rest_of reader.old) result (rest_of reader.new) }
 {
     let start = reader.start()?;
@@ -110,7 +149,7 @@ fn assigned(alloc: Global, reader: &mut Reader<'_>, depth: usize) -> Result<Stat
     Ok(Statement::Assign(reader.finish(start), assignment))
 }
 
-pub fn empty(reader: &mut Reader<'_>) -> Result<Statement, Stop>
+fn empty(reader: &mut Reader<'_>) -> Result<Statement, Stop>
     ensures { Took take_empty (rest_of reader.old) result (rest_of reader.new) }
 {
     let start = reader.start()?;
@@ -118,7 +157,7 @@ pub fn empty(reader: &mut Reader<'_>) -> Result<Statement, Stop>
     Ok(Statement::Empty(reader.finish(start)))
 }
 
-pub fn print(alloc: Global, reader: &mut Reader<'_>, depth: usize) -> Result<Statement, Stop>
+fn print(alloc: Global, reader: &mut Reader<'_>, depth: usize) -> Result<Statement, Stop>
     ensures { Took (spec.take_print depth) (rest_of reader.old) result (rest_of reader.new) }
 {
     let start = reader.start()?;
@@ -138,7 +177,7 @@ fn printed(alloc: Global, reader: &mut Reader<'_>, depth: usize) -> Result<Items
     Ok(values)
 }
 
-pub fn rtf(alloc: Global, reader: &mut Reader<'_>, depth: usize) -> Result<Statement, Stop>
+fn rtf(alloc: Global, reader: &mut Reader<'_>, depth: usize) -> Result<Statement, Stop>
     ensures { Took (spec.take_rtf depth) (rest_of reader.old) result (rest_of reader.new) }
 {
     let start = reader.start()?;
@@ -158,7 +197,7 @@ fn passed(alloc: Global, reader: &mut Reader<'_>, depth: usize) -> Result<Flow, 
     Ok(value)
 }
 
-pub fn returned(alloc: Global, reader: &mut Reader<'_>, depth: usize) -> Result<Statement, Stop>
+fn returned(alloc: Global, reader: &mut Reader<'_>, depth: usize) -> Result<Statement, Stop>
     ensures { Took (spec.take_return depth) (rest_of reader.old) result (rest_of reader.new) }
 {
     let start = reader.start()?;

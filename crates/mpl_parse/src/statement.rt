@@ -1,29 +1,36 @@
-//! Statements and blocks.
+//! Statements and blocks. A statement is put behind those that were read before it.
 
 ghost use Rattle.std.specs.Prelude.{◌≡◌};
 ghost use Rattle.mpl_trees.specs.Statements as spec;
 ghost use Rattle.mpl_trees.specs.Taking as taking;
 ghost use Rattle.mpl_reader.specs.Reader.{Took, rest_of};
 ghost use Rattle.mpl_parse.specs.Internal.Forms.{statement_of, take_of_block, take_other};
+ghost use Rattle.mpl_parse.specs.Internal.Onto.{TookOnto};
 
 use crate::head::for_head;
-use crate::simple::{call_alone, declared, empty, named, print, returned, rtf, test};
+use crate::onto::{only, plain_onto, put_block, put_for, put_if, put_while};
+use crate::simple::test;
 use mpl_ast::statement::{Block, Statement};
 use mpl_ast::token::{Keyword, Mark, TokenKind};
 use mpl_reader::ahead::{sees_keyword, sees_mark};
-use mpl_reader::{Reader, Stop};
+use mpl_reader::{Reader, Stop, short_list};
 use sqlite_items::{Boxed, Items};
 use std::alloc::Global;
 
 /// A statement, in which statements stand in statements at most so deep.
 #[cycle(statement)]
-pub fn statement(alloc: Global, reader: &mut Reader<'_>, depth: usize) -> Result<Statement, Stop>
-    ensures { Took (spec.take_statement depth) (rest_of reader.old) result (rest_of reader.new) }
+fn statement(
+    alloc: Global,
+    reader: &mut Reader<'_>,
+    depth: usize,
+    list: &mut Items<Statement>,
+) -> Result<(), Stop>
+    ensures { TookOnto (spec.take_statement depth) (rest_of reader.old) list.old result (rest_of reader.new) list.new }
 {
     let Some(inside) = depth.checked_sub(1) else {
         return Err(Stop::Stuck);
     };
-    statement_within(alloc, reader, depth, inside)
+    statement_within(alloc, reader, depth, inside, list)
 }
 
 /// A statement: its parts so deep, and statements in it so deep.
@@ -33,39 +40,35 @@ fn statement_within(
     reader: &mut Reader<'_>,
     depth: usize,
     inside: usize,
-) -> Result<Statement, Stop>
-    ensures { Took (statement_of depth (spec.take_statement inside)) (rest_of reader.old) result (rest_of reader.new) }
+    list: &mut Items<Statement>,
+) -> Result<(), Stop>
+    ensures { TookOnto (statement_of depth (spec.take_statement inside)) (rest_of reader.old) list.old result (rest_of reader.new) list.new }
 {
     let [token, ..] = reader.left else {
         return Err(Stop::Stuck);
     };
     match token.kind {
-        TokenKind::Name(_) => named(alloc, reader, depth),
-        TokenKind::Number(_) => Err(Stop::Stuck),
-        TokenKind::Keyword(Keyword::If) => choice(alloc, reader, depth, inside),
-        TokenKind::Keyword(Keyword::While) => repeated(alloc, reader, depth, inside),
-        TokenKind::Keyword(Keyword::For) => counted(alloc, reader, depth, inside),
-        TokenKind::Keyword(Keyword::Int) => declared(alloc, reader, depth),
-        TokenKind::Keyword(Keyword::Bool) => declared(alloc, reader, depth),
-        TokenKind::Keyword(Keyword::Own) => call_alone(alloc, reader, depth),
-        TokenKind::Keyword(Keyword::Print) => print(alloc, reader, depth),
-        TokenKind::Keyword(Keyword::Rtf) => rtf(alloc, reader, depth),
-        TokenKind::Keyword(Keyword::Return) => returned(alloc, reader, depth),
-        TokenKind::Keyword(_) => Err(Stop::Stuck),
-        TokenKind::Mark(Mark::OpenBrace) => of_block(alloc, reader, inside),
-        TokenKind::Mark(Mark::Semicolon) => empty(reader),
-        TokenKind::Mark(_) => Err(Stop::Stuck),
+        TokenKind::Keyword(Keyword::If) => choice(alloc, reader, depth, inside, list),
+        TokenKind::Keyword(Keyword::While) => repeated(alloc, reader, depth, inside, list),
+        TokenKind::Keyword(Keyword::For) => counted(alloc, reader, depth, inside, list),
+        TokenKind::Mark(Mark::OpenBrace) => of_block(alloc, reader, inside, list),
+        _ => plain_onto(alloc, reader, depth, list),
     }
 }
 
 /// A block as a statement.
 #[cycle(statement)]
-fn of_block(alloc: Global, reader: &mut Reader<'_>, depth: usize) -> Result<Statement, Stop>
-    ensures { Took (take_of_block (spec.take_statement depth)) (rest_of reader.old) result (rest_of reader.new) }
+fn of_block(
+    alloc: Global,
+    reader: &mut Reader<'_>,
+    depth: usize,
+    list: &mut Items<Statement>,
+) -> Result<(), Stop>
+    ensures { TookOnto (take_of_block (spec.take_statement depth)) (rest_of reader.old) list.old result (rest_of reader.new) list.new }
 {
     let start = reader.start()?;
     let block = block(alloc, reader, depth)?;
-    Ok(Statement::OfBlock(reader.finish(start), block))
+    put_block(list, reader.finish(start), block)
 }
 
 /// Statements in braces.
@@ -96,13 +99,12 @@ fn statements(
 ) -> Result<Items<Statement>, Stop>
     ensures { Took (taking.all_of (spec.take_statement depth) turns) (rest_of reader.old) result (rest_of reader.new) }
 {
-    let mut list = Items::new(alloc);
+    let mut list = short_list(alloc)?;
     for _turn in 0..turns {
         if sees_mark(reader.left, Mark::CloseBrace) {
             return Ok(list);
         }
-        let next = statement(alloc, reader, depth)?;
-        list.push(next)?;
+        statement(alloc, reader, depth, &mut list)?;
     }
     Ok(list)
 }
@@ -114,15 +116,16 @@ fn choice(
     reader: &mut Reader<'_>,
     depth: usize,
     inside: usize,
-) -> Result<Statement, Stop>
-    ensures { Took (spec.take_if depth (spec.take_statement inside)) (rest_of reader.old) result (rest_of reader.new) }
+    list: &mut Items<Statement>,
+) -> Result<(), Stop>
+    ensures { TookOnto (spec.take_if depth (spec.take_statement inside)) (rest_of reader.old) list.old result (rest_of reader.new) list.new }
 {
     let start = reader.start()?;
     reader.keyword(Keyword::If)?;
     let test = test(alloc, reader, depth)?;
     let first = boxed(alloc, reader, inside)?;
     let other = other(alloc, reader, inside)?;
-    Ok(Statement::If(reader.finish(start), test, first, other))
+    put_if(list, reader.finish(start), test, first, other)
 }
 
 /// What stands behind an `else`, if there is one.
@@ -147,8 +150,9 @@ fn other(
 fn boxed(alloc: Global, reader: &mut Reader<'_>, depth: usize) -> Result<Boxed<Statement>, Stop>
     ensures { Took (spec.take_statement depth) (rest_of reader.old) result (rest_of reader.new) }
 {
-    let statement = statement(alloc, reader, depth)?;
-    Ok(Boxed::new(alloc, statement)?)
+    let mut list = short_list(alloc)?;
+    statement(alloc, reader, depth, &mut list)?;
+    only(alloc, list)
 }
 
 /// A `while`.
@@ -158,14 +162,15 @@ fn repeated(
     reader: &mut Reader<'_>,
     depth: usize,
     inside: usize,
-) -> Result<Statement, Stop>
-    ensures { Took (spec.take_while depth (spec.take_statement inside)) (rest_of reader.old) result (rest_of reader.new) }
+    list: &mut Items<Statement>,
+) -> Result<(), Stop>
+    ensures { TookOnto (spec.take_while depth (spec.take_statement inside)) (rest_of reader.old) list.old result (rest_of reader.new) list.new }
 {
     let start = reader.start()?;
     reader.keyword(Keyword::While)?;
     let test = test(alloc, reader, depth)?;
     let body = boxed(alloc, reader, inside)?;
-    Ok(Statement::While(reader.finish(start), test, body))
+    put_while(list, reader.finish(start), test, body)
 }
 
 /// A `for`.
@@ -175,12 +180,13 @@ fn counted(
     reader: &mut Reader<'_>,
     depth: usize,
     inside: usize,
-) -> Result<Statement, Stop>
-    ensures { Took (spec.take_for depth (spec.take_statement inside)) (rest_of reader.old) result (rest_of reader.new) }
+    list: &mut Items<Statement>,
+) -> Result<(), Stop>
+    ensures { TookOnto (spec.take_for depth (spec.take_statement inside)) (rest_of reader.old) list.old result (rest_of reader.new) list.new }
 {
     let start = reader.start()?;
     reader.keyword(Keyword::For)?;
     let head = for_head(alloc, reader, depth)?;
     let body = boxed(alloc, reader, inside)?;
-    Ok(Statement::For(reader.finish(start), head, body))
+    put_for(list, reader.finish(start), head, body)
 }

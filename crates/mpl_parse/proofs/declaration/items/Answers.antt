@@ -1,8 +1,9 @@
 use Rattle.std.proofs.Common.{◌-◌, ◌+◌, length, ap, sym, ◌∙◌, arith}
+use Rattle.std.proofs.lemmas.Result.{err_from_is_err_and}
 use Rattle.mpl_trees.specs.Programs.{take_item}
 use Rattle.mpl_trees.specs.Taking.{all_of}
 use Rattle.mpl_reader.specs.Reader.{most_number, rest_of}
-use Rattle.mpl_expressions.proofs.Turns.{behind, end-all, last-all, next-all}
+use Rattle.mpl_expressions.proofs.Turns.{behind, end-all, last-all, next-all, stuck-all}
 use Rattle.mpl_parse.proofs.declaration.items.Goals as goal
 
 pub returns-then-sees_mark : goal.returns-then-sees_mark
@@ -19,3 +20,10 @@ loop-turn-preserved c =
 
 pub returns : goal.returns
 returns c = c.loop-turn.invariant ∙ end-all take_item most_number (c.args.turns - c.loop-turn._turn) c.loop-turn.list (rest_of c.loop-turn.reader) (omega arith)
+
+pub returns-in_err-next : goal.returns-in_err-next
+returns-in_err-next c =
+    let turns = c.args.turns in
+    let p = err_from_is_err_and c.from_residual-in_err-next.result c.from_residual-in_err-next.ensures.1 in
+    rw (p.1, p.2) (λ s. c.loop-turn.invariant ∙ stuck-all take_item most_number (turns - c.loop-turn._turn) (turns - (c.loop-turn._turn + 1)) c.loop-turn.list (rest_of c.loop-turn.reader)
+    (omega arith) (sym c.sees_mark.ensures ∙ c.if-sees_mark.false) (c.in_err-next.ensures s))
