@@ -44,7 +44,7 @@ leads_forward (instr.End line) place h p each = refl
 leads_forward (instr.Fail line) place h p each = refl
 leads_forward other place h p each = let f = each (place + 1) (omega arith) in cc f
 
-stands_at : (guard : List Instr) (first place : ℕ) (i : Instr) → is_guard_from first guard ≡ true → slice_get guard place ≡ Some i → stands_in_guard (first + place) i ≡ true
+pub stands_at : (guard : List Instr) (first place : ℕ) (i : Instr) → is_guard_from first guard ≡ true → slice_get guard place ≡ Some i → stands_in_guard (first + place) i ≡ true
 stands_at [] first place i h is = absurd (cc is)
 stands_at (j ∷ guard) first zero i h is =
     let same : j ≡ i = cc is in
@@ -71,18 +71,18 @@ guard_passes guard h (suc k) place past = passes_from guard h k place (λ q afte
 nothing_passes : Passing []
 nothing_passes place = passes_past [] 0 place (omega arith)
 
-found : {A : Type 0} (p : A → Bool) (xs : List A) (i : ℕ) (x : A) → list_all p xs ≡ true → slice_get xs i ≡ Some x → p x ≡ true
+pub found : {A : Type 0} (p : A → Bool) (xs : List A) (i : ℕ) (x : A) → list_all p xs ≡ true → slice_get xs i ≡ Some x → p x ≡ true
 found p [] i x h is = absurd (cc is)
 found p (y ∷ xs) zero x h is = let same : y ≡ x = cc is in subst (λ y. p y ≡ true) same (both_true (p y) (list_all p xs) h).0
 found p (y ∷ xs) (suc i) x h is = found p xs i x (both_true (p y) (list_all p xs) h).1 is
 
-record IsImage (image : RawImage) : Type 0 where
-  functions : list_all is_function image.functions ≡ true
-  members : list_all is_member image.members ≡ true
-  entries : list_all is_entry image.entries ≡ true
-  main : is_code image.main ≡ true
+pub record IsImage (image : RawImage) : Type 0 where
+  pub functions : list_all is_function image.functions ≡ true
+  pub members : list_all is_member image.members ≡ true
+  pub entries : list_all is_entry image.entries ≡ true
+  pub main : is_code image.main ≡ true
 
-parts : (image : RawImage) → is_image image ≡ true → IsImage image
+pub parts : (image : RawImage) → is_image image ≡ true → IsImage image
 parts image h =
     let a = both_true (list_all is_function image.functions) (list_all is_class image.classes && (list_all is_member image.members && (list_all is_entry image.entries && is_code image.main))) h in
     let b = both_true (list_all is_class image.classes) (list_all is_member image.members && (list_all is_entry image.entries && is_code image.main)) a.1 in

@@ -7,3 +7,5 @@ pub mod Executing
 pub mod Ran
 pub mod Poured
 pub mod Filled
+pub mod GuardReads
+pub mod GuardRuns

@@ -1,4 +1,4 @@
--- A flow value as it is handed out, and as a frame has it.
+-- A flow value as it is handed out.
 use Rattle.mpl_value.specs.declared.known.Known.TheVariants as known
 use Rattle.mdf_code.specs.Alone.{Held, Words, Pending}
 use Rattle.mdf_vm.specs.declared.stop.FlowArg.{FlowArg}
@@ -7,9 +7,3 @@ use Rattle.mdf_vm.specs.declared.stop.FlowArg.TheVariants as flow
 abbrev pub flow_arg : Held → FlowArg
 flow_arg (Words words) = flow.Known (known.Value words)
 flow_arg (Pending result) = flow.Result result
-
--- as the frame had it, which has no known trap
-abbrev pub held_in : FlowArg → Held
-held_in (flow.Known (known.Value words)) = Words words
-held_in (flow.Known (known.Trapped trap)) = Pending 0
-held_in (flow.Result result) = Pending result

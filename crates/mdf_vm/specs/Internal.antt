@@ -6,3 +6,5 @@ pub mod Handing
 pub mod Turns
 pub mod Answers
 pub mod Pouring
+pub mod Guarded
+pub mod HeldArgs

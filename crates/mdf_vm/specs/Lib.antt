@@ -6,4 +6,5 @@ pub mod Runs
 pub mod Standing
 pub mod Hollow
 pub mod Ends
+pub mod GuardFormals
 pub mod Internal

@@ -1,13 +1,13 @@
 -- A frame alone, as it is between two calls of it.
-use Rattle.std.specs.Prelude.{ℕ, ◌≡◌, ◌⊎◌, ◌+◌, ◌<◌, ◌≤◌, ◌^◌, map, length}
+use Rattle.std.specs.Prelude.{ℕ, List, ◌≡◌, ◌⊎◌, ◌+◌, ◌<◌, ◌≤◌, ◌^◌, map, length}
 use Rattle.mdf_code.specs.declared.raw.RawImage.{RawImage}
-use Rattle.mdf_code.specs.Alone.{Words, Pending}
+use Rattle.mdf_code.specs.Alone.{Held, Words, Pending}
 use Rattle.mdf_code.specs.Frames.{Around, Calls, Creates, Ends, Needs, Replies, Strays, Traps}
 use Rattle.mdf_code.specs.Told.{Alone, Halt, Beats, Stands}
 use Rattle.mdf_code.specs.Yields.{answered, named}
 use Rattle.mdf_vm.specs.Results.{knows_of}
 use Rattle.mdf_vm.specs.Runs.{RunsTo, Went}
-use Rattle.mdf_vm.specs.FlowArgs.{held_in}
+use Rattle.mdf_vm.specs.FlowArgs.{flow_arg}
 use Rattle.mdf_vm.specs.Runnings.{frame_of}
 use Rattle.mdf_vm.specs.declared.frame.Frame as frames
 use Rattle.mdf_vm.specs.declared.last.Last.{Last}
@@ -37,9 +37,10 @@ last_at Beats = last.Going
 
 -- a stop tells where a frame halts
 abbrev pub Tells : stops.Stop → Halt → Type 0
-Tells (stop.Call sent) halt = halt ≡ Stands (Calls sent.member.0 sent.object (map held_in sent.args))
+Tells (stop.Call sent) halt =
+    (arguments : List Held) × (halt ≡ Stands (Calls sent.member.0 sent.object arguments)) × (sent.args ≡ map flow_arg arguments)
 Tells (stop.Need result) halt = halt ≡ Stands (Needs (Pending result))
-Tells (stop.Reply value) halt = halt ≡ Stands (Replies (held_in value))
+Tells (stop.Reply value) halt = (given : Held) × (halt ≡ Stands (Replies given)) × (value ≡ flow_arg given)
 Tells (stop.Create class) halt = halt ≡ Stands (Creates class)
 Tells stop.End halt = (halt ≡ Stands Strays) ⊎ ((line : ℕ) × (halt ≡ Stands (Ends line)))
 Tells (stop.Trap trap) halt = halt ≡ Stands (Traps trap)

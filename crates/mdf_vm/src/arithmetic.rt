@@ -97,7 +97,7 @@ impl Running {
     }
 }
 
-fn word_of(truth: bool) -> i64
+pub fn word_of(truth: bool) -> i64
     ensures { result ≡ bool_word truth }
 {
     if truth { 1 } else { 0 }

@@ -4,17 +4,16 @@ ghost use Rattle.mdf_code.specs.Frames as frames;
 ghost use Rattle.mdf_code.specs.declared.instr.Instr.TheVariants as instr;
 ghost use Rattle.mdf_vm.specs.Internal.Moves.{Did};
 ghost use Rattle.mdf_vm.specs.Runnings.{frame_of};
-ghost use Rattle.std.specs.Prelude.{map, take};
+ghost use Rattle.std.specs.Prelude.{take};
 ghost use Rattle.mdf_code.specs.Parts.{sizes_of_formals};
 ghost use Rattle.mdf_code.specs.Steps.{sizes_agree, values_of};
-ghost use Rattle.mdf_vm.specs.FlowArgs.{held_in};
 ghost use Rattle.mdf_vm.specs.declared.moves.Move.TheVariants as move_kinds;
 ghost use Rattle.mdf_vm.specs.declared.moves.Halted.TheVariants as halted;
 
 use crate::code::{is_regular, may_post, may_send};
+use crate::handed::{Calling, Handed};
 use crate::moves::{Halted, Move, STRAY};
 use crate::running::{Flow, Running};
-use crate::stop::{FlowArgs, Sent};
 use mdf_code::{RawImage, RawMember};
 use mpl_value::{MemberId, NoMemory};
 use std::alloc::Global;
@@ -97,10 +96,10 @@ impl Running {
     }
 }
 
-fn call_of(member: u32, object: i64, args: FlowArgs) -> Move
+fn call_of(member: u32, object: i64, args: Handed) -> Move
     ensures { result ≡ move_kinds.Stops (halted.Call (record { member = record { 0 = member }; object = object; args = args })) }
 {
-    Move::Stops(Halted::Call(Sent {
+    Move::Stops(Halted::Call(Calling {
         member: MemberId(member),
         object,
         args,
@@ -137,13 +136,13 @@ fn agree(sizes: &[u32], flows: &[Flow]) -> bool
     true
 }
 
-fn flow_args(alloc: Global, flows: &[Flow]) -> Result<FlowArgs, NoMemory>
-    ensures { IfOk result (λ args. map held_in args ≡ values_of flows.now) }
+fn flow_args(alloc: Global, flows: &[Flow]) -> Result<Handed, NoMemory>
+    ensures { IfOk result (λ args. args ≡ values_of flows.now) }
 {
-    let mut args = FlowArgs::new(alloc);
+    let mut args = Handed::new(alloc);
     for flow in flows {
         let value = flow.value().copy()?;
-        args.push(value.flow_arg())?;
+        args.push(value)?;
     }
     Ok(args)
 }

@@ -172,7 +172,7 @@ impl Running {
         };
         self.place = next;
         self.replied = true;
-        Move::Stops(Halted::Reply(flow.into_value().flow_arg()))
+        Move::Stops(Halted::Reply(flow.into_value()))
     }
 
     /// A number of the input.

@@ -201,9 +201,9 @@ impl Frame {
                 self.last = Last::Going;
                 Stop::Beat
             }
-            Some(Halted::Call(sent)) => {
-                self.last = Last::Called(sent.member.0);
-                Stop::Call(sent)
+            Some(Halted::Call(calling)) => {
+                self.last = Last::Called(calling.member.0);
+                Stop::Call(calling.into_sent())
             }
             Some(Halted::Need(result)) => {
                 self.last = Last::Needs(result);
@@ -211,7 +211,7 @@ impl Frame {
             }
             Some(Halted::Reply(value)) => {
                 self.last = Last::Going;
-                Stop::Reply(value)
+                Stop::Reply(value.flow_arg())
             }
             Some(Halted::Create(class)) => {
                 self.last = Last::Creates;

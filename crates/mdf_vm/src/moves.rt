@@ -2,7 +2,8 @@ ghost use Rattle.std.specs.Prelude.{◌≡◌, ◌≢◌, MatchBool};
 ghost use Rattle.mdf_vm.specs.declared.moves.Move.TheVariants as move_kinds;
 ghost use Rattle.mdf_vm.specs.declared.moves.Halted.TheVariants as halted;
 
-use crate::stop::{FlowArg, Sent};
+use crate::handed::Calling;
+use crate::held::Held;
 use mpl_value::{Trap, TrapKind};
 
 /// What came of an instruction: the frame goes on, goes on with a turn, or stops.
@@ -24,9 +25,9 @@ impl Move {
 /// Why a frame stops.
 #[derive(Drop)]
 pub enum Halted {
-    Call(Sent),
+    Call(Calling),
     Need(u32),
-    Reply(FlowArg),
+    Reply(Held),
     Create(u32),
     /// The end, with the line where a result was missed.
     End(u32),

@@ -9,3 +9,5 @@ mod images;
 mod loops;
 #[cfg(test)]
 mod objects;
+#[cfg(test)]
+mod room;

@@ -1,11 +1,10 @@
 -- What came of an instruction.
-use Rattle.std.specs.Prelude.{ℕ, ◌≡◌, map}
+use Rattle.std.specs.Prelude.{ℕ, ◌≡◌}
 use Rattle.mpl_value.specs.declared.body.Arg.{Arg}
 use Rattle.mdf_code.specs.declared.instr.Instr.{Instr}
 use Rattle.mdf_code.specs.Alone.{Held, Pending, framed}
 use Rattle.mdf_code.specs.Frames.{Around, Frame, Next, Goes, Spends, Stops, Stop, Calls, Creates, Ends, Needs, Replies, Strays, Traps}
 use Rattle.mdf_code.specs.Steps.{does, or_strays}
-use Rattle.mdf_vm.specs.FlowArgs.{held_in}
 use Rattle.mdf_vm.specs.Runnings.{frame_of}
 use Rattle.mdf_vm.specs.declared.running.Running.{Running}
 use Rattle.mdf_vm.specs.declared.moves.Move.{Move}
@@ -14,9 +13,9 @@ use Rattle.mdf_vm.specs.declared.moves.Halted.{Halted}
 use Rattle.mdf_vm.specs.declared.moves.Halted.TheVariants as halted
 
 abbrev pub stop_of : Halted → Stop Held
-stop_of (halted.Call sent) = Calls sent.member.0 sent.object (map held_in sent.args)
+stop_of (halted.Call calling) = Calls calling.member.0 calling.object calling.args
 stop_of (halted.Need result) = Needs (Pending result)
-stop_of (halted.Reply value) = Replies (held_in value)
+stop_of (halted.Reply value) = Replies value
 stop_of (halted.Create class) = Creates class
 stop_of (halted.End line) = Ends line
 stop_of halted.Stray = Strays
