@@ -1,0 +1,33 @@
+use Rattle.std.proofs.Common.{List, [], ◌∷◌, pos, refl, replicate, reverse}
+use Rattle.std.specs.Fmt.{digits}
+use Rattle.mpl_value.specs.declared.body.BodyEnd.TheVariants.{Done}
+use Rattle.mdf_code.specs.Alone.{Pending}
+use Rattle.mdf_code.specs.SmallBodies.{passes_on, text}
+use Rattle.mdf_core.specs.declared.status.MachineStatus.TheVariants as machine
+use Rattle.mdf_core.specs.SmallRuns.{with_budget, word}
+use Rattle.mdf_core.specs.Steps.{after}
+use Rattle.mdf_core.specs.Worlds.{Job}
+use Rattle.mdf_core.proofs.Driving.{did, found, found_by_first}
+use Rattle.mdf_core.proofs.worked.a_result_is_forwarded.Goals as goal
+use Rattle.mdf_core.specs.Events.{Event, End, Finishes, Fire, Learn, Match, Park, Quit, Reply, Resume, Send}
+
+abbrev job : Job
+job = with_budget (passes_on 2) 100
+
+abbrev events : List Event
+events = Fire 0 ∷ Send 0 0 1 1 (pos 0) (word 2 ∷ []) ∷ Park 0 0 1 ∷ Fire 1 ∷ Send 1 0 2 0 (pos 0) (word 2 ∷ []) ∷ Reply 1 0 (Pending 1)
+    ∷ End 1 0 (Finishes 3) [] ∷ Fire 2 ∷ Reply 2 0 (word 4) ∷ Match 0 ∷ Resume 0 ∷ Learn 0 0 1 ∷ End 0 0 (Finishes 0) []
+    ∷ End 2 0 (Finishes 2) [] ∷ Quit machine.Rest ∷ []
+
+pub returns : goal.returns
+unfolding digits
+returns c = record {
+  run = record {
+    is_log = found 100 job (replicate 15 0) (reverse events) refl;
+    by_first = found_by_first 100 job 15 (reverse events) refl;
+    ends = refl;
+    turns_are = refl;
+    journal_is = refl;
+  };
+  main = did 100 job (after job (reverse events)) Done (text ("4" ∷ [])) refl;
+}
