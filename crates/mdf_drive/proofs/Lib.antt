@@ -1,0 +1,13 @@
+pub mod Resting
+pub mod SeenArguments
+pub mod TreeTurns
+pub mod Tallies
+pub mod Settling
+pub mod Plainness
+pub mod DirectRun
+pub mod Answering
+pub mod Fronts
+pub mod Agreeing
+pub mod Spending
+pub mod Orders
+pub mod PlainImages
