@@ -83,34 +83,34 @@ record CallsAs (w : World) (d n : ℕ) (x b : Account) : Type 0 where
   result : b.result ≡ x.result
 
 trapped_as : (w : World) (image : RawImage) (member d n : ℕ) (arguments : List Arg) (x b : Account) (t : Option Trap) → n ≡ 0 → known_at w (Some d) ≡ None → UnlessTrapped image member arguments x b t → CallsAs w d n x b
-trapped_as w image member d n arguments x b (Some trap) none open_ h = record {
+trapped_as w image member d n arguments x b (Some trap) none unknown h = record {
   value = Trapped trap;
   answers = sym (ap (λ (a : Account). a.answers) h);
   sent = sym (ap (λ (a : Account). a.sent) h);
   turns = omega (arith, none, ap (λ (a : Account). a.turns) h);
-  is = λ k known_. absurd (cc (open_, known_));
+  is = λ k knows. absurd (cc (unknown, knows));
   result = sym (ap (λ (a : Account). a.result) h);
 }
-trapped_as w image member d n arguments x b None none open_ h = record {
+trapped_as w image member d n arguments x b None none unknown h = record {
   value = arg_of_result h.yield.result;
   answers = sym (ap (λ (a : Account). a.answers) h.is);
   sent = sym (ap (λ (a : Account). a.sent) h.is);
   turns = omega (arith, none, ap (λ (a : Account). a.turns) h.is);
-  is = λ k known_. absurd (cc (open_, known_));
+  is = λ k knows. absurd (cc (unknown, knows));
   result = sym (ap (λ (a : Account). a.result) h.is);
 }
 
 -- an actor whose result is open, and that has no turns
 unknown_as : (w : World) (image : RawImage) (member d n : ℕ) (arguments : List Arg) (x b : Account) (u : Bool) → n ≡ 0 → known_at w (Some d) ≡ None → UnlessUnknown image member arguments x b u → CallsAs w d n x b
-unknown_as w image member d n arguments x b true none open_ h = record {
+unknown_as w image member d n arguments x b true none unknown h = record {
   value = Unknown;
   answers = sym (ap (λ (a : Account). a.answers) h);
   sent = sym (ap (λ (a : Account). a.sent) h);
   turns = omega (arith, none, ap (λ (a : Account). a.turns) h);
-  is = λ k known_. absurd (cc (open_, known_));
+  is = λ k knows. absurd (cc (unknown, knows));
   result = sym (ap (λ (a : Account). a.result) h);
 }
-unknown_as w image member d n arguments x b false none open_ h = trapped_as w image member d n arguments x b (leftmost_trap arguments) none open_ h
+unknown_as w image member d n arguments x b false none unknown h = trapped_as w image member d n arguments x b (leftmost_trap arguments) none unknown h
 
 known_same : (w : World) (c : ℕ) (k l : Known) → known_at w (Some c) ≡ Some k → known_at w (Some c) ≡ Some l → k ≡ l
 known_same w c k l a b = some_same (sym a ∙ b)
@@ -141,7 +141,7 @@ module _ (job : Job) (w : World) (r : Logged job w) where
 
   poisoned_as : (d member n : ℕ) (trap : Trap) → missing_in (w.actors d).ports ≡ 0 → leftmost_trap (arguments_of (w.actors d).ports) ≡ Some trap → (w.actors d).fate ≡ Is (known.Trapped trap) → n ≡ 0 → (x b : Account) →
       UnlessUnknown job.image member (arguments_of (w.actors d).ports) x b (any_unknown (arguments_of (w.actors d).ports)) → CallsAs w d n x b
-  poisoned_as d member n trap none leftmost is zero_ x b h = at (subst (UnlessTrapped job.image member args x b) leftmost (subst (UnlessUnknown job.image member args x b) (none_unknown (w.actors d).ports none) h)) where
+  poisoned_as d member n trap none leftmost is idle x b h = at (subst (UnlessTrapped job.image member args x b) leftmost (subst (UnlessUnknown job.image member args x b) (none_unknown (w.actors d).ports none) h)) where
     args : List Arg
     args = arguments_of (w.actors d).ports
 
@@ -150,8 +150,8 @@ module _ (job : Job) (w : World) (r : Logged job w) where
       value = Trapped trap;
       answers = sym (ap (λ (a : Account). a.answers) trapped);
       sent = sym (ap (λ (a : Account). a.sent) trapped);
-      turns = omega (arith, zero_, ap (λ (a : Account). a.turns) trapped);
-      is = λ k known_. ap (λ l. arg_of_reply (Some l)) (known_same w d (known.Trapped trap) k (ap known_of is) known_);
+      turns = omega (arith, idle, ap (λ (a : Account). a.turns) trapped);
+      is = λ k knows. ap (λ l. arg_of_reply (Some l)) (known_same w d (known.Trapped trap) k (ap known_of is) knows);
       result = sym (ap (λ (a : Account). a.result) trapped);
     }
 
@@ -304,12 +304,12 @@ module _ (job : Job) (w : World) (r : Logged job w) (g : ℕ → ℕ) (c : ℕ) 
       made = subst (NamesMade (calls_made before)) halt (names_made job.image (w.actors c).start before stood halts)
 
       passed : (call d : ℕ) → IsMade (calls_made before) (Pending call) → (w.actors c).child call ≡ Some d → Passes w c d → (k : Known) → known_at w (Some c) ≡ Some k → a.answers call ≡ arg_of_reply (Some k)
-      passed call d n found (inl f) k known_ = absurd (cc (known_, ap known_of f))
-      passed call d n found (inr (l, own, of_child)) k known_ = t.answers call k n.0 n.1 (ap (known_at w) found ∙ (of_child ∙ (sym (ap known_of own) ∙ known_)))
+      passed call d n found (inl f) k knows = absurd (cc (knows, ap known_of f))
+      passed call d n found (inr (l, own, of_child)) k knows = t.answers call k n.0 n.1 (ap (known_at w) found ∙ (of_child ∙ (sym (ap known_of own) ∙ knows)))
 
       at : (v : Held) → IsMade (calls_made before) v → IsGiven w c v → (k : Known) → known_at w (Some c) ≡ Some k → seen_by a.answers v ≡ arg_of_reply (Some k)
-      at (Words words) n given k known_ = ap (λ l. arg_of_reply (Some l)) (known_same w c (known.Value words) k given known_)
-      at (Pending call) n given k known_ = passed call given.0 n given.1 given.2 k known_
+      at (Words words) n given k knows = ap (λ l. arg_of_reply (Some l)) (known_same w c (known.Value words) k given knows)
+      at (Pending call) n given k knows = passed call given.0 n given.1 given.2 k knows
 
     told_beat : stood.halt ≡ Beats → Upto (Beaten ∷ before) (m + stood.turns + 0)
     told_beat halt = (x, record { right = one_right Beaten x Beats halt refl; sent = t.sent; answers = t.answers; turns = stop_turns; not_given = t.not_given; given = t.given })

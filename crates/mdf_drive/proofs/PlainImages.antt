@@ -41,90 +41,90 @@ PlainNext image (Spends g) = Unit {0}
 PlainNext image (Stops stop g) = PlainStop image stop
 
 -- the flow values, and what a frame runs in, whose classes are regular
-record Plain_ (V : Type 0) : Type 1 where
+record PlainFrames (V : Type 0) : Type 1 where
   flows : Flows V
   x : Around
   classes : EachRegular x.image
 
-abbrev PlainIf : {V : Type 0} → Plain_ V → Does V → Type 0
+abbrev PlainIf : {V : Type 0} → PlainFrames V → Does V → Type 0
 PlainIf t None = Unit {0}
 PlainIf t (Some next) = PlainNext t.x.image next
 
 -- ---- what may be missing
 
-given_plain : {V A : Type 0} (t : Plain_ V) (o : Option A) (h : A → Does V) → ((a : A) → o ≡ Some a → PlainIf t (h a)) → PlainIf t (given o h)
+given_plain : {V A : Type 0} (t : PlainFrames V) (o : Option A) (h : A → Does V) → ((a : A) → o ≡ Some a → PlainIf t (h a)) → PlainIf t (given o h)
 given_plain t None h e = tt
 given_plain t (Some a) h e = e a refl
 
-true_plain : {V : Type 0} (t : Plain_ V) (b : Bool) (d : Does V) → (b ≡ true → PlainIf t d) → PlainIf t (where_true b d)
+true_plain : {V : Type 0} (t : PlainFrames V) (b : Bool) (d : Does V) → (b ≡ true → PlainIf t d) → PlainIf t (where_true b d)
 true_plain t true d e = e refl
 true_plain t false d e = tt
 
-if_plain : {V : Type 0} (t : Plain_ V) (b : Bool) (d e : Does V) → PlainIf t d → PlainIf t e → PlainIf t (cond b d e)
+if_plain : {V : Type 0} (t : PlainFrames V) (b : Bool) (d e : Does V) → PlainIf t d → PlainIf t e → PlainIf t (cond b d e)
 if_plain t true d e h j = h
 if_plain t false d e h j = j
 
-index_plain : {V : Type 0} (t : Plain_ V) (f : Frame V) → (o : Option ℕ) (line : ℕ) (next : ℕ → Does V) → ((n : ℕ) → PlainIf t (next n)) → PlainIf t (at_index o line f next)
+index_plain : {V : Type 0} (t : PlainFrames V) (f : Frame V) → (o : Option ℕ) (line : ℕ) (next : ℕ → Does V) → ((n : ℕ) → PlainIf t (next n)) → PlainIf t (at_index o line f next)
 index_plain t f None line next e = tt
 index_plain t f (Some n) line next e = e n
 
-computed_plain : {V : Type 0} (t : Plain_ V) (line : ℕ) (r : Result ℤ TrapKind) (below : List ℤ) (f : Frame V) → PlainIf t (computed line r below f)
+computed_plain : {V : Type 0} (t : PlainFrames V) (line : ℕ) (r : Result ℤ TrapKind) (below : List ℤ) (f : Frame V) → PlainIf t (computed line r below f)
 computed_plain t line (Ok z) below f = tt
 computed_plain t line (Err kind) below f = tt
 
-word_plain : {V : Type 0} (t : Plain_ V) (f : Frame V) (next : ℤ → List ℤ → Does V) → ((a : ℤ) (below : List ℤ) → PlainIf t (next a below)) → PlainIf t (on_word f next)
+word_plain : {V : Type 0} (t : PlainFrames V) (f : Frame V) (next : ℤ → List ℤ → Does V) → ((a : ℤ) (below : List ℤ) → PlainIf t (next a below)) → PlainIf t (on_word f next)
 word_plain t f next e = given_plain t (popped f.words) _ (λ top is. e top.items top.below)
 
-two_plain : {V : Type 0} (t : Plain_ V) (f : Frame V) (next : ℤ → ℤ → List ℤ → Does V) → ((a b : ℤ) (below : List ℤ) → PlainIf t (next a b below)) → PlainIf t (on_two f next)
+two_plain : {V : Type 0} (t : PlainFrames V) (f : Frame V) (next : ℤ → ℤ → List ℤ → Does V) → ((a b : ℤ) (below : List ℤ) → PlainIf t (next a b below)) → PlainIf t (on_two f next)
 two_plain t f next e = given_plain t (popped f.words) _ (λ b is. given_plain t (popped b.below) _ (λ a is. e a.items b.items a.below))
 
-words_plain : {V : Type 0} (t : Plain_ V) (count : ℕ) (f : Frame V) (next : List ℤ → List ℤ → Does V) → ((words below : List ℤ) → PlainIf t (next words below)) → PlainIf t (on_words count f next)
+words_plain : {V : Type 0} (t : PlainFrames V) (count : ℕ) (f : Frame V) (next : List ℤ → List ℤ → Does V) → ((words below : List ℤ) → PlainIf t (next words below)) → PlainIf t (on_words count f next)
 words_plain t count f next e = given_plain t (popped_all count f.words) _ (λ top is. e top.items top.below)
 
-computes_plain : {V : Type 0} (t : Plain_ V) (operation : ℤ → ℤ → Result ℤ TrapKind) (line : ℕ) (f : Frame V) → PlainIf t (computes operation line f)
+computes_plain : {V : Type 0} (t : PlainFrames V) (operation : ℤ → ℤ → Result ℤ TrapKind) (line : ℕ) (f : Frame V) → PlainIf t (computes operation line f)
 computes_plain t operation line f = two_plain t f _ (λ a b below. computed_plain t line (operation a b) below f)
 
-compares_plain : {V : Type 0} (t : Plain_ V) (test : ℤ → ℤ → Bool) (f : Frame V) → PlainIf t (compares test f)
+compares_plain : {V : Type 0} (t : PlainFrames V) (test : ℤ → ℤ → Bool) (f : Frame V) → PlainIf t (compares test f)
 compares_plain t test f = two_plain t f _ (λ a b below. tt)
 
-reads_plain : {V : Type 0} (t : Plain_ V) (line : ℕ) (input : List ℤ) (f : Frame V) → PlainIf t (reads line input f)
+reads_plain : {V : Type 0} (t : PlainFrames V) (line : ℕ) (input : List ℤ) (f : Frame V) → PlainIf t (reads line input f)
 reads_plain t line [] f = tt
 reads_plain t line (z ∷ zs) f = tt
 
-back_plain : {V : Type 0} (t : Plain_ V) (words : List ℤ) (callers : List (Caller V)) (f : Frame V) → PlainIf t (goes_back words callers f)
+back_plain : {V : Type 0} (t : PlainFrames V) (words : List ℤ) (callers : List (Caller V)) (f : Frame V) → PlainIf t (goes_back words callers f)
 back_plain t words [] f = tt
 back_plain t words (caller ∷ callers) f = tt
 
-holding_plain : {V : Type 0} (t : Plain_ V) (variable : ℕ) (new : V) (values : List V) (f : Frame V) → PlainIf t (goes_holding (set_at variable new values) f)
+holding_plain : {V : Type 0} (t : PlainFrames V) (variable : ℕ) (new : V) (values : List V) (f : Frame V) → PlainIf t (goes_holding (set_at variable new values) f)
 holding_plain {V = V} t variable new values f = by_held (set_at variable new values) where
   by_held : (o : Option (List V)) → PlainIf t (goes_holding o f)
   by_held None = tt
   by_held (Some held) = tt
 
-stores_plain : {V : Type 0} (t : Plain_ V) (variable : ℕ) (o : Option (List ℤ)) (f : Frame V) → PlainIf t (stores t.flows variable o f)
+stores_plain : {V : Type 0} (t : PlainFrames V) (variable : ℕ) (o : Option (List ℤ)) (f : Frame V) → PlainIf t (stores t.flows variable o f)
 stores_plain t variable None f = tt
 stores_plain t variable (Some words) f = holding_plain t variable (t.flows.known words) f.variables f
 
-keeping_plain : {V : Type 0} (t : Plain_ V) (o : Option (List ℤ)) (f : Frame V) → PlainIf t (goes_keeping o f)
+keeping_plain : {V : Type 0} (t : PlainFrames V) (o : Option (List ℤ)) (f : Frame V) → PlainIf t (goes_keeping o f)
 keeping_plain t None f = tt
 keeping_plain t (Some kept) f = tt
 
-known_plain : {V : Type 0} (t : Plain_ V) (variable : ℕ) (f : Frame V) (next : List ℤ → Does V) → ((held : List ℤ) → PlainIf t (next held)) → PlainIf t (on_known t.flows variable f next)
+known_plain : {V : Type 0} (t : PlainFrames V) (variable : ℕ) (f : Frame V) (next : List ℤ → Does V) → ((held : List ℤ) → PlainIf t (next held)) → PlainIf t (on_known t.flows variable f next)
 known_plain t variable f next e = given_plain t (slice_get f.variables variable) _ (λ value there. given_plain t (known_words_of (t.flows.see value)) next (λ held is. e held))
 
-needed_plain : {V : Type 0} (t : Plain_ V) (value : V) (a : Arg) (f : Frame V) (next : List ℤ → Does V) → ((words : List ℤ) → PlainIf t (next words)) → PlainIf t (needed value a f next)
+needed_plain : {V : Type 0} (t : PlainFrames V) (value : V) (a : Arg) (f : Frame V) (next : List ℤ → Does V) → ((words : List ℤ) → PlainIf t (next words)) → PlainIf t (needed value a f next)
 needed_plain t value (Know words) f next e = e words
 needed_plain t value (Trapped trap) f next e = tt
 needed_plain t value Unknown f next e = tt
 
-flow_plain : {V : Type 0} (t : Plain_ V) (flows : List (Flow V)) (next : Flow V → List (Flow V) → Does V) → ((flow : Flow V) (below : List (Flow V)) → PlainIf t (next flow below)) → PlainIf t (given (popped flows) (λ top. next top.items top.below))
+flow_plain : {V : Type 0} (t : PlainFrames V) (flows : List (Flow V)) (next : Flow V → List (Flow V) → Does V) → ((flow : Flow V) (below : List (Flow V)) → PlainIf t (next flow below)) → PlainIf t (given (popped flows) (λ top. next top.items top.below))
 flow_plain t [] next e = tt
 flow_plain t (flow ∷ below) next e = e flow below
 
-calls_plain : {V : Type 0} (t : Plain_ V) (member : ℕ) (m : RawMember) (object : ℤ) (f : Frame V) → member_is_regular t.x.image member ≡ true → PlainIf t (calls member m object f)
+calls_plain : {V : Type 0} (t : PlainFrames V) (member : ℕ) (m : RawMember) (object : ℤ) (f : Frame V) → member_is_regular t.x.image member ≡ true → PlainIf t (calls member m object f)
 calls_plain t member m object f may = given_plain t (popped_all m.formals f.flows) _ (λ top popped. true_plain t (sizes_agree (sizes_of_formals m) top.items) _ (λ agree. may))
 
-member_plain : {V : Type 0} (t : Plain_ V) (member count : ℕ) (kind : Bool → Bool) (next : RawMember → Does V) →
+member_plain : {V : Type 0} (t : PlainFrames V) (member count : ℕ) (kind : Bool → Bool) (next : RawMember → Does V) →
     ((m : RawMember) (regular : Bool) → slice_get t.x.image.members member ≡ Some m → is_regular t.x.image m ≡ Some regular → kind regular ≡ true → PlainIf t (next m)) → PlainIf t (on_member t.x member count kind next)
 member_plain t member count kind next e = given_plain t (slice_get t.x.image.members member) _ (λ m is. given_plain t (is_regular t.x.image m) _ (λ regular kinded.
     true_plain t (kind regular) _ (λ right. true_plain t (m.formals == count) _ (λ _. e m regular is kinded right))))
@@ -147,7 +147,7 @@ not_regular image m regular each kind h = by_class (slice_get image.classes m.cl
 
 -- ---- instructions
 
-does_plain : {V : Type 0} (t : Plain_ V) (i : Instr) (f : Frame V) → PlainIf t (does t.flows t.x i f)
+does_plain : {V : Type 0} (t : PlainFrames V) (i : Instr) (f : Frame V) → PlainIf t (does t.flows t.x i f)
 does_plain t (instr.Push word) f = tt
 does_plain t (instr.Drop count) f = words_plain t count f _ (λ words below. tt)
 does_plain t (instr.Load variable offset count) f = known_plain t variable f _ (λ held. given_plain t (read_words offset count held) _ (λ words is. tt))
@@ -216,7 +216,7 @@ does_plain t (instr.Print letters) f = true_plain t (is_main f.code) _ (λ _. wo
 does_plain t (instr.End line) f = tt
 does_plain t (instr.Fail line) f = given_plain t (function_of t.x.image f.code) _ (λ function is. tt)
 
-step_plain : {V : Type 0} (t : Plain_ V) (f : Frame V) → PlainNext t.x.image (step t.flows t.x f)
+step_plain : {V : Type 0} (t : PlainFrames V) (f : Frame V) → PlainNext t.x.image (step t.flows t.x f)
 step_plain {V = V} t f = at_instruction (slice_get (text_at t.x.image f.code) f.place) where
   strays : (d : Does V) → PlainIf t d → PlainNext t.x.image (or_strays f d)
   strays None h = tt

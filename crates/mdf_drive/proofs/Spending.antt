@@ -79,17 +79,17 @@ module _ (job : Job) (w : World) (r : Logged job w) (g : ℕ → ℕ) (each : (c
 
         -- a result that was given
         given_is : has_given (w.actors c).told ≡ true → (k : Known) → known_at w (Some c) ≡ Some k → arg_of_result y.result ≡ arg_of_reply (Some k)
-        given_is is k known_ = let v = t.given is in
-            ap arg_of_result (given_stays job.image (w.actors c).start y through (w.actors c).told a v.0 t.right is v.1) ∙ (arg_of_result_of v.0 ∙ v.2 k known_)
+        given_is is k knows = let v = t.given is in
+            ap arg_of_result (given_stays job.image (w.actors c).start y through (w.actors c).told a v.0 t.right is v.1) ∙ (arg_of_result_of v.0 ∙ v.2 k knows)
 
         by_gift : (has_given (w.actors c).told ≡ false → (k : Known) → known_at w (Some c) ≡ Some k → arg_of_result y.result ≡ arg_of_reply (Some k)) → (k : Known) → known_at w (Some c) ≡ Some k → arg_of_result y.result ≡ arg_of_reply (Some k)
-        by_gift none k known_ = at (has_given (w.actors c).told) refl where
+        by_gift none k knows = at (has_given (w.actors c).told) refl where
           at : (b : Bool) → has_given (w.actors c).told ≡ b → arg_of_result y.result ≡ arg_of_reply (Some k)
-          at true is = given_is is k known_
-          at false is = none is k known_
+          at true is = given_is is k knows
+          at false is = none is k knows
 
         not_over : is_over (w.actors c).status ≡ false → (k : Known) → known_at w (Some c) ≡ Some k → arg_of_result y.result ≡ arg_of_reply (Some k)
-        not_over over = by_gift (λ none k known_. absurd (cc (known_, ap known_of ((r.fated c).unsettled none over))))
+        not_over over = by_gift (λ none k knows. absurd (cc (knows, ap known_of ((r.fated c).unsettled none over))))
 
         member : (w.actors c).start.member ≡ (w.actors c).call.member
         member = start_member job (w.actors c) (plain_start job (w.actors c) (r.plain c there) starts)
@@ -123,8 +123,8 @@ module _ (job : Job) (w : World) (r : Logged job w) (g : ℕ → ℕ) (each : (c
         nothing_told x b Beats ending u is h = cc is
 
         ended : HaltsEnded job (w.actors c) → (k : Known) → known_at w (Some c) ≡ Some k → arg_of_result y.result ≡ arg_of_reply (Some k)
-        ended h = by_gift (λ none k known_. ap arg_of_result (at none (way_on job.image (w.actors c).start y through (w.actors c).told a h.stood t.right h.halts))
-            ∙ (sym (fate_seen (result_at_end job (w.actors c) h.ending)) ∙ ap arg_of_reply (sym (ap known_of (h.result none)) ∙ known_))) where
+        ended h = by_gift (λ none k knows. ap arg_of_result (at none (way_on job.image (w.actors c).start y through (w.actors c).told a h.stood t.right h.halts))
+            ∙ (sym (fate_seen (result_at_end job (w.actors c) h.ending)) ∙ ap arg_of_reply (sym (ap known_of (h.result none)) ∙ knows))) where
               at : has_given (w.actors c).told ≡ false → WayOn job.image (w.actors c).start y through (w.actors c).told a h.stood → y.result ≡ result_at_end job (w.actors c) h.ending
               at none (AtEnd e) = ends_open h.stood h.stood.halt h.ending h.ends e (t.not_given none)
               at none (Further u b is right) = absurd (nothing_told (with_turns h.stood.turns a) b h.stood.halt h.ending u h.ends is)

@@ -221,8 +221,8 @@ module _ (job : Job) (w : World) (r : Rested job w) (g : ℕ → ℕ) (c : ℕ) 
   abbrev start : BodyStart
   start = (w.actors c).start
 
-  abbrev Told_ : List Told → ℕ → Type 0
-  Told_ told n = (a : Account) × Tally job w g c told n a
+  abbrev ToldUpTo : List Told → ℕ → Type 0
+  ToldUpTo told n = (a : Account) × Tally job w g c told n a
 
   module _ (before : List Told) (m : ℕ) (stood : Stood) (halts : HaltsNext job.image (w.actors c).start before stood) (a : Account) (t : Tally job w g c before m a) where
     abbrev x : Account
@@ -234,7 +234,7 @@ module _ (job : Job) (w : World) (r : Rested job w) (g : ℕ → ℕ) (c : ℕ) 
     stop_turns : a.turns + stood.turns ≡ m + stood.turns + 0 + over_children g (w.actors c).child (calls_made before)
     stop_turns = omega (arith, t.turns)
 
-    told_call : (member : ℕ) (object : ℤ) (arguments : List Held) → stood.halt ≡ Stands (Calls member object arguments) → HasActor w c (calls_made before + 1) member object arguments → Told_ (Called ∷ before) (m + stood.turns + 1)
+    told_call : (member : ℕ) (object : ℤ) (arguments : List Held) → stood.halt ≡ Stands (Calls member object arguments) → HasActor w c (calls_made before + 1) member object arguments → ToldUpTo (Called ∷ before) (m + stood.turns + 1)
     told_call member object arguments halt h = (
       k.b,
       record {
@@ -283,11 +283,11 @@ module _ (job : Job) (w : World) (r : Rested job w) (g : ℕ → ℕ) (c : ℕ) 
             below : (p q : ℕ) → p ≤ q + 1 → (p ≡ q + 1 → ⊥) → p ≤ q
             below p q l d = by_bool (nat_lt q p) (λ e. absurd (d (omega (arith, l, ltb-true q p e)))) (λ e. ltb-false q p e)
 
-    told_known : (call : ℕ) (known_ : Known) → stood.halt ≡ Stands (Needs (Pending call)) → known_at w ((w.actors c).child call) ≡ Some known_ → Told_ (Learnt known_ ∷ before) (m + stood.turns + 0)
-    told_known call known_ halt is = (
+    told_known : (call : ℕ) (value_known : Known) → stood.halt ≡ Stands (Needs (Pending call)) → known_at w ((w.actors c).child call) ≡ Some value_known → ToldUpTo (Learnt value_known ∷ before) (m + stood.turns + 0)
+    told_known call value_known halt is = (
       x,
       record {
-        right = one_right (Learnt known_) x (Stands (Needs (Pending call))) halt (t.answers call names.0 names.1 ∙ ap arg_of_reply is, refl);
+        right = one_right (Learnt value_known) x (Stands (Needs (Pending call))) halt (t.answers call names.0 names.1 ∙ ap arg_of_reply is, refl);
         sent = t.sent;
         answers = t.answers;
         turns = stop_turns;
@@ -298,7 +298,7 @@ module _ (job : Job) (w : World) (r : Rested job w) (g : ℕ → ℕ) (c : ℕ) 
       names : IsMade (calls_made before) (Pending call)
       names = subst (NamesMade (calls_made before)) halt (names_made job.image (w.actors c).start before stood halts)
 
-    told_gave : (value : Held) → stood.halt ≡ Stands (Replies value) → IsGiven w c value → Told_ (Gave ∷ before) (m + stood.turns + 0)
+    told_gave : (value : Held) → stood.halt ≡ Stands (Replies value) → IsGiven w c value → ToldUpTo (Gave ∷ before) (m + stood.turns + 0)
     told_gave value halt is = (
       record x { result = result_of (seen_by a.answers value) },
       record {
@@ -321,12 +321,12 @@ module _ (job : Job) (w : World) (r : Rested job w) (g : ℕ → ℕ) (c : ℕ) 
       at (Words words) made g = sym (ap arg_of_reply g)
       at (Pending call) made g = t.answers call made.0 made.1 ∙ (ap (result_seen w) g.1 ∙ passed g.0 g.2)
 
-    told_beat : stood.halt ≡ Beats → Told_ (Beaten ∷ before) (m + stood.turns + 0)
+    told_beat : stood.halt ≡ Beats → ToldUpTo (Beaten ∷ before) (m + stood.turns + 0)
     told_beat halt = (x, record { right = one_right Beaten x Beats halt refl; sent = t.sent; answers = t.answers; turns = stop_turns; not_given = t.not_given; given = t.given })
 
-    told_one : (halt : Halt) (told : Told) → stood.halt ≡ halt → IsSo w c before halt told → Told_ (told ∷ before) (m + stood.turns + cost told)
+    told_one : (halt : Halt) (told : Told) → stood.halt ≡ halt → IsSo w c before halt told → ToldUpTo (told ∷ before) (m + stood.turns + cost told)
     told_one (Stands (Calls member object arguments)) Called halt is = told_call member object arguments halt is
-    told_one (Stands (Needs (Pending call))) (Learnt known_) halt is = told_known call known_ halt is
+    told_one (Stands (Needs (Pending call))) (Learnt value_known) halt is = told_known call value_known halt is
     told_one (Stands (Creates class)) (Named object) halt is = absurd (creates_nothing job (w.actors c) r.main (r.stages c) (r.plain c there) starts before stood class halts halt)
     told_one (Stands (Replies value)) Gave halt is = told_gave value halt is
     told_one Beats Beaten halt is = told_beat halt
