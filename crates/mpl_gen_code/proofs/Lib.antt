@@ -42,3 +42,4 @@ pub mod TypedFlows
 pub mod TypedAssignments
 pub mod TypedStatements
 pub mod TypedPrograms
+pub mod TypedRuns

@@ -1,5 +1,5 @@
-ghost use Rattle.std.specs.Prelude.{◌≡◌, ℕ, Bool, true};
-ghost use Rattle.std.specs.FinMap.{FinMap};
+ghost use Rattle.std.specs.Prelude.{◌≡◌, ℕ, Bool, true, List, ℤ};
+ghost use Rattle.std.specs.FinMap.{FinMap, empty};
 ghost use Rattle.std.specs.Ordering.{nat_cmp};
 ghost use Rattle.mpl_ast.specs.declared.program.Program.{Program};
 ghost use Rattle.mpl_value.specs.declared.body.BodyStart.{BodyStart};
@@ -7,6 +7,7 @@ ghost use Rattle.mpl_value.specs.declared.body.Yield.{Yield};
 ghost use Rattle.mpl_value.specs.declared.known.Known.{Known};
 ghost use Rattle.mpl_mean.specs.Laws.Sizes.{CallReplyFits, Every, RepliesFit, StartFits};
 ghost use Rattle.mpl_mean.specs.Meaning.BodyMeaning.{yield_of};
+ghost use Rattle.mpl_mean.specs.Meaning.DirectRun.{direct_run, main_start};
 ghost use Rattle.mpl_mean.specs.Pending.MayBePending.{MayBePending};
 ghost use Rattle.mpl_mean.specs.TypeRules.Rules.{is_typed};
 ghost use Rattle.mpl_checked.specs.Checked.CheckedBodies.{checked_yield};
@@ -33,4 +34,10 @@ pub fn typed_programs_fit()
 pub fn marked_code_does_what_programs_mean()
     ensures { (p : Program) (marks : ℕ → Bool) → is_typed p ≡ true → ((node : ℕ) → MayBePending p node → marks node ≡ true) →
         (start : BodyStart) (replies : FinMap nat_cmp Known) (n : ℕ) → StartFits p start → RepliesFit p start replies n → YieldsUnstrayed (image_of p marks) start replies n (yield_of p start replies n) }
+{}
+
+/// So `main`, with any input and no reply at all, yields by its code what a direct run of the program does.
+pub fn main_runs_as_its_code()
+    ensures { (p : Program) (marks : ℕ → Bool) → is_typed p ≡ true → ((node : ℕ) → MayBePending p node → marks node ≡ true) → (input : List ℤ) (n : ℕ) →
+        YieldsUnstrayed (image_of p marks) (main_start input) empty n (direct_run p input n) }
 {}
