@@ -2,7 +2,13 @@
 #![tactic(auto)]
 
 #[cfg(test)]
+mod buffer;
+#[cfg(test)]
 mod calls;
+#[cfg(test)]
+mod fib;
+#[cfg(test)]
+mod guards;
 #[cfg(test)]
 mod images;
 #[cfg(test)]
