@@ -130,7 +130,7 @@ fn add_body<'o, 'a>(
 }
 
 /// The formals as variables, the first the newest.
-pub fn locals_of<'a>(alloc: Global, formals: &'a [Formal]) -> Result<Locals<'a>, NoMemory>
+fn locals_of<'a>(alloc: Global, formals: &'a [Formal]) -> Result<Locals<'a>, NoMemory>
     ensures { IfOk result (λ locals. locals ≡ map formal_shape formals.now) }
 {
     let mut locals = Locals::new(alloc);

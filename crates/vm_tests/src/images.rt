@@ -44,28 +44,6 @@ pub fn image(
         entries: RawEntries::new(alloc),
         main,
     };
-    sound_image(alloc, raw)
-}
-
-/// An image of one regular class.
-pub fn regular_image(alloc: Global, members: RawMembers, main: RawCode) -> Result<Image, Fail> {
-    let mut classes = RawClasses::new(alloc);
-    classes.push(RawClass {
-        regular: true,
-        words: 0,
-        selects: false,
-    })?;
-    let raw = RawImage {
-        functions: RawFunctions::new(alloc),
-        classes,
-        members,
-        entries: RawEntries::new(alloc),
-        main,
-    };
-    sound_image(alloc, raw)
-}
-
-pub fn sound_image(alloc: Global, raw: RawImage) -> Result<Image, Fail> {
     if !is_sound(alloc, &raw)? {
         return Err("no image".into());
     }
@@ -105,10 +83,7 @@ impl Rig {
         member: Option<(bool, RawMember)>,
         main: RawCode,
     ) -> Result<Rig, Fail> {
-        Rig::at_main(alloc, image(alloc, member, main)?)
-    }
-
-    pub fn at_main(alloc: Global, image: Image) -> Result<Rig, Fail> {
+        let image = image(alloc, member, main)?;
         match Frame::start(alloc, &image, &main_start(alloc)) {
             Ok(frame) => Ok(Rig { image, frame }),
             Err(_) => Err("no memory".into()),

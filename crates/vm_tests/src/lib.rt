@@ -2,13 +2,7 @@
 #![tactic(auto)]
 
 #[cfg(test)]
-mod buffer;
-#[cfg(test)]
 mod calls;
-#[cfg(test)]
-mod fib;
-#[cfg(test)]
-mod guards;
 #[cfg(test)]
 mod images;
 #[cfg(test)]
