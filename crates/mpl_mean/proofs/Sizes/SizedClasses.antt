@@ -16,7 +16,7 @@ use Rattle.mpl_ast.specs.declared.program.Declaration.{Declaration}
 use Rattle.mpl_ast.specs.declared.program.Declaration.TheVariants as declaration
 use Rattle.mpl_ast.specs.declared.statement.Block.{Block}
 use Rattle.mpl_mean.specs.Meaning.BodyMeaning.{member_of_classes, member_or}
-use Rattle.mpl_mean.specs.Meaning.Layout.{Class, Member, class_named, classes_from, formals_of, is_regular, member_named, member_numbered, members_from, state_of, struct_named}
+use Rattle.mpl_mean.specs.Meaning.Layout.{Class, Member, class_named, classes_from, formals_of, is_regular, member_named, member_numbered, members_from, state_of}
 use Rattle.mpl_mean.specs.TypeRules.ProgramNodes.{declared_name}
 use Rattle.mpl_mean.specs.TypeRules.Scopes.{Surrounding}
 use Rattle.mpl_mean.specs.Laws.Sizes.{Every}
@@ -40,18 +40,6 @@ among_more name earlier more h = list_any-append (bytes_eq name) earlier more �
 
 among_last : (name : List ℕ) (earlier : List (List ℕ)) → list_any (bytes_eq name) (earlier ++ name ∷ []) ≡ true
 among_last name earlier = list_any-append (bytes_eq name) earlier (name ∷ []) ∙ or_right _ _ (or_left _ false (bytes_itself name))
-
--- there is no other struct of a name that stood before
-struct_absent : (name : List ℕ) (earlier : List (List ℕ)) (ds : List Declaration) → list_any (bytes_eq name) earlier ≡ true → NamesDiffer earlier ds → struct_named name ds ≡ None
-struct_absent name earlier [] h n = refl
-struct_absent name earlier (declaration.Struct at line struct fields ∷ ds) h n =
-    chosen (bytes_eq struct.text name) refl (struct_absent name (earlier ++ struct.text ∷ []) ds (among_more name earlier (struct.text ∷ []) h) n.1) where
-      chosen : (b : Bool) → bytes_eq struct.text name ≡ b → struct_named name ds ≡ None → (if b then Some fields else struct_named name ds) ≡ None
-      chosen true e k = absurd (let i = subst (λ w. list_any (bytes_eq w) earlier ≡ true) (sym (bytes_same struct.text name e)) h in let j = n.0 in cc)
-      chosen false e k = k
-struct_absent name earlier (declaration.Class at line kind class items ∷ ds) h n = struct_absent name (earlier ++ class.text ∷ []) ds (among_more name earlier (class.text ∷ []) h) n.1
-struct_absent name earlier (declaration.Function at result function formals body ∷ ds) h n =
-    struct_absent name (earlier ++ function.text ∷ []) ds (among_more name earlier (function.text ∷ []) h) n.1
 
 -- ---- members
 
@@ -118,7 +106,6 @@ named_number name id (item.Empty at ∷ items) m e = let h = named_number name i
 pub record ClassFound (whole : List Declaration) (name : List ℕ) (regular : Bool) (items : List Item) (number id : ℕ) (ds : List Declaration) : Type 0 where
   pub class : Class
   pub first : ℕ
-  pub absent : struct_named name ds ≡ None
   pub found : class_named name (classes_from number id ds) ≡ Some class
   pub is_regular : class.is_regular ≡ regular
   pub members : class.members ≡ members_from first items
@@ -142,7 +129,6 @@ class_found whole name meant regular items number id earlier (declaration.Struct
           record {
             class = h.class;
             first = h.first;
-            absent = ap (λ b. if b then Some fields else struct_named name ds) i ∙ h.absent;
             found = h.found;
             is_regular = h.is_regular;
             members = h.members;
@@ -160,7 +146,6 @@ class_found whole name meant regular items number id earlier (declaration.Class 
           record {
             class = (class_declared number id kind class others);
             first = id;
-            absent = struct_absent name (earlier ++ class.text ∷ []) ds (subst (λ w. list_any (bytes_eq name) (earlier ++ w ∷ []) ≡ true) (sym same) (among_last name earlier)) n.1;
             found = ap (λ b. if b then Some (class_declared number id kind class others) else class_named name (classes_from (number + 1) (id + length (members_from id others)) ds)) i;
             is_regular = is.0;
             members = ap (members_from id) is.1;
@@ -175,7 +160,6 @@ class_found whole name meant regular items number id earlier (declaration.Class 
           record {
             class = h.class;
             first = h.first;
-            absent = h.absent;
             found = ap (λ b. if b then Some (class_declared number id kind class others) else class_named name (classes_from (number + 1) (id + length (members_from id others)) ds)) i ∙ h.found;
             is_regular = h.is_regular;
             members = h.members;
@@ -190,7 +174,6 @@ class_found whole name meant regular items number id earlier (declaration.Functi
     record {
       class = h.class;
       first = h.first;
-      absent = h.absent;
       found = h.found;
       is_regular = h.is_regular;
       members = h.members;

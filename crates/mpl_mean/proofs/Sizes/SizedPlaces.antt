@@ -10,7 +10,7 @@ use Rattle.mpl_ast.specs.declared.statement.TypeName.{TypeName}
 use Rattle.mpl_ast.specs.declared.statement.TypeName.TheVariants as type
 use Rattle.mpl_value.specs.declared.body.Arg.TheVariants.{Know}
 use Rattle.mpl_mean.specs.TypeRules.ExpressionRules.{is_struct}
-use Rattle.mpl_mean.specs.Meaning.Layout.{Part, class_named, classes_of, dimension_of, part_named, parts_of, parts_of_type, words_of, words_of_fields, words_of_named, words_of_parts}
+use Rattle.mpl_mean.specs.Meaning.Layout.{Part, dimension_of, part_named, parts_of, parts_of_meant, parts_of_type, words_of, words_of_fields, words_of_one, words_of_parts}
 use Rattle.mpl_mean.specs.TypeRules.NameRules.{has_field, meant_has_field}
 use Rattle.mpl_mean.specs.TypeRules.Nodes.{target_nodes}
 use Rattle.mpl_mean.specs.Meaning.PlaceMeaning.{Location, base_of, field_of_location, index_of, put, location_of, location_of_name, location_of_part, tested_index, words_of_location}
@@ -31,11 +31,6 @@ use Rattle.mpl_mean.proofs.Sizes.SizedStores.{hold_keeps, restates_keeps, state_
 use Rattle.mpl_mean.proofs.Sizes.SizedTypes.{WellProgram, not_bool, not_int, struct_of, value_of_shape}
 
 -- ---- structs
-
--- the parts of a struct that may be there
-abbrev parts_of_maybe : List Declaration → Option (List Field) → List Part
-parts_of_maybe ds None = []
-parts_of_maybe ds (Some fields) = parts_of ds fields
 
 pub record StructOf (ds : List Declaration) (name : List ℕ) (t : TypeName) : Type 0 where
   pub fields : List Field
@@ -64,9 +59,9 @@ struct_type {ds} well role (type.Named at name) n e = named (meant_by name.text 
         record {
           fields = fields;
           meant = subst (λ w. meant_by w ds ≡ AStruct n fields) text (i ∙ ap (λ w. AStruct w fields) same);
-          parts = ap (parts_of_maybe ds) h.1;
-          words = ap (λ s. words_of_named s (class_named name.text (classes_of ds))) h.1;
-          well = h.2;
+          parts = ap (parts_of_meant ds) i;
+          words = ap words_of_one i;
+          well = h.1;
         }
   named (AClass k true items) i e = absurd cc
   named (AClass k false items) i e = absurd cc

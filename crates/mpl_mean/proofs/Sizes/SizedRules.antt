@@ -15,17 +15,17 @@ use Rattle.mpl_ast.specs.declared.statement.TypeName.{TypeName}
 use Rattle.mpl_mean.specs.Plain.Stmt.{stmts_of}
 use Rattle.mpl_mean.specs.TypeRules.CallRules.{plain_call_agrees, member_call_agrees, void_call_is_alone, call_is_in_place, self_is_in_place}
 use Rattle.mpl_mean.specs.TypeRules.ClassRules.{state_is_persistent}
-use Rattle.mpl_mean.specs.TypeRules.ExpressionRules.{operands_agree, index_agrees, place_may_stand, field_is_of_struct, right_side_agrees}
+use Rattle.mpl_mean.specs.TypeRules.ExpressionRules.{test_is_bool, operands_agree, index_agrees, place_may_stand, field_is_of_struct, right_side_agrees}
 use Rattle.mpl_mean.specs.Meaning.Layout.{formals_of, state_of}
 use Rattle.mpl_mean.specs.TypeRules.NameRules.{name_is_known, name_is_new, main_is_there}
 use Rattle.mpl_mean.specs.TypeRules.Nodes.{Located}
 use Rattle.mpl_mean.specs.TypeRules.ProgramNodes.{function_body, nodes, surrounding}
 use Rattle.mpl_mean.specs.TypeRules.Rules.{Failure, Rule, failing_at, failures_among, failures_at, is_empty, is_typed, rules}
 use Rattle.mpl_mean.specs.TypeRules.Scopes.{Environment, Body, InMember, Surrounding, is_main}
-use Rattle.mpl_mean.specs.TypeRules.SizeRules.{dimension_fits, is_element, type_may_stand}
+use Rattle.mpl_mean.specs.TypeRules.SizeRules.{count_is_allowed, dimension_fits, is_element, size_fits, type_may_stand, variables_fit}
 use Rattle.mpl_mean.specs.Laws.Sizes.{Every}
 use Rattle.mpl_mean.specs.TypeRules.StatementNodes.{stmts_walk}
-use Rattle.mpl_mean.specs.TypeRules.StatementRules.{rtf_agrees, return_agrees}
+use Rattle.mpl_mean.specs.TypeRules.StatementRules.{speaks_in_main, rtf_agrees, return_agrees}
 use Rattle.mpl_mean.specs.TypeRules.Types.{AsResult, Declared, InState, InStruct, declared_fields, declared_formals, meant, shape_of, value_type}
 
 -- what the sizes rest on at one node
@@ -35,7 +35,11 @@ pub record Right (p : Located) : Type 0 where
   pub main : main_is_there p.environment p.node ≡ true
   pub stands : type_may_stand p.environment p.node ≡ true
   pub dimension : dimension_fits p.environment p.node ≡ true
+  pub size : size_fits p.environment p.node ≡ true
+  pub variables : variables_fit p.environment p.node ≡ true
+  pub count : count_is_allowed p.environment p.node ≡ true
   pub state : state_is_persistent p.environment p.node ≡ true
+  pub test : test_is_bool p.environment p.node ≡ true
   pub operands : operands_agree p.environment p.node ≡ true
   pub index : index_agrees p.environment p.node ≡ true
   pub place : place_may_stand p.environment p.node ≡ true
@@ -46,6 +50,7 @@ pub record Right (p : Located) : Type 0 where
   pub passed : void_call_is_alone p.environment p.node ≡ true
   pub in_place : call_is_in_place p.environment p.node ≡ true
   pub own : self_is_in_place p.environment p.node ≡ true
+  pub speaks : speaks_in_main p.environment p.node ≡ true
   pub rtf : rtf_agrees p.environment p.node ≡ true
   pub return : return_agrees p.environment p.node ≡ true
 
@@ -93,7 +98,11 @@ all_right (p ∷ ps) e =
         main = h.1.1.0;
         stands = h.1.1.1.0;
         dimension = h.1.1.1.1.0;
+        size = h.1.1.1.1.1.0;
+        variables = h.1.1.1.1.1.1.0;
+        count = h.1.1.1.1.1.1.1.0;
         state = h.1.1.1.1.1.1.1.1.0;
+        test = h.1.1.1.1.1.1.1.1.1.1.1.0;
         operands = h.1.1.1.1.1.1.1.1.1.1.1.1.0;
         index = h.1.1.1.1.1.1.1.1.1.1.1.1.1.0;
         place = h.1.1.1.1.1.1.1.1.1.1.1.1.1.1.0;
@@ -104,6 +113,7 @@ all_right (p ∷ ps) e =
         passed = h.1.1.1.1.1.1.1.1.1.1.1.1.1.1.1.1.1.1.1.0;
         in_place = h.1.1.1.1.1.1.1.1.1.1.1.1.1.1.1.1.1.1.1.1.0;
         own = h.1.1.1.1.1.1.1.1.1.1.1.1.1.1.1.1.1.1.1.1.1.0;
+        speaks = h.1.1.1.1.1.1.1.1.1.1.1.1.1.1.1.1.1.1.1.1.1.1.0;
         rtf = h.1.1.1.1.1.1.1.1.1.1.1.1.1.1.1.1.1.1.1.1.1.1.1.0;
         return = h.1.1.1.1.1.1.1.1.1.1.1.1.1.1.1.1.1.1.1.1.1.1.1.1.1.0;
       },

@@ -12,7 +12,7 @@ use Rattle.mpl_ast.specs.declared.statement.TypeName.{TypeName}
 use Rattle.mpl_ast.specs.declared.statement.TypeName.TheVariants as type
 use Rattle.mpl_mean.proofs.Truth.{both_true}
 use Rattle.mpl_mean.specs.TypeRules.ExpressionRules.{binary_agrees, unary_agrees}
-use Rattle.mpl_mean.specs.Meaning.Layout.{class_named, classes_of, dimension_of, is_regular, struct_named, words_of, words_of_class, words_of_named, words_of_word}
+use Rattle.mpl_mean.specs.Meaning.Layout.{dimension_of, is_regular, words_of, words_of_one, words_of_word}
 use Rattle.mpl_mean.specs.TypeRules.Operations.{Operation, Arithmetic, Comparison, Equality, Logic}
 use Rattle.mpl_mean.specs.TypeRules.Scopes.{Body, InMember, Surrounding, is_in_member, is_persistent}
 use Rattle.mpl_mean.specs.TypeRules.Scopes as scope
@@ -38,24 +38,24 @@ struct_is : {n m : List ℕ} {a b : List Field} → AStruct n a ≡ AStruct m b 
 struct_is e = (cc, cc)
 
 pub struct_found : (whole : List Declaration) (name meant : List ℕ) (fields : List Field) (ds : List Declaration) → Every (WellDeclaration whole) ds → meant_by name ds ≡ AStruct meant fields
-    → (name ≡ meant) × (struct_named name ds ≡ Some fields) × Every (WellDeclared whole) (declared_fields InStruct fields)
+    → (name ≡ meant) × Every (WellDeclared whole) (declared_fields InStruct fields)
 struct_found whole name meant fields [] w e = absurd cc
 struct_found whole name meant fields (declaration.Struct at line struct others ∷ ds) w e = chosen (bytes_eq struct.text name) e (struct_found whole name meant fields ds w.1) where
   chosen : (b : Bool) → (if b then AStruct name others else meant_by name ds) ≡ AStruct meant fields
-      → (meant_by name ds ≡ AStruct meant fields → (name ≡ meant) × (struct_named name ds ≡ Some fields) × Every (WellDeclared whole) (declared_fields InStruct fields))
-      → (name ≡ meant) × ((if b then Some others else struct_named name ds) ≡ Some fields) × Every (WellDeclared whole) (declared_fields InStruct fields)
-  chosen true e k = let h = struct_is e in (h.0, ap (λ f. Some f) h.1, subst (λ f. Every (WellDeclared whole) (declared_fields InStruct f)) h.1 w.0)
+      → (meant_by name ds ≡ AStruct meant fields → (name ≡ meant) × Every (WellDeclared whole) (declared_fields InStruct fields))
+      → (name ≡ meant) × Every (WellDeclared whole) (declared_fields InStruct fields)
+  chosen true e k = let h = struct_is e in (h.0, subst (λ f. Every (WellDeclared whole) (declared_fields InStruct f)) h.1 w.0)
   chosen false e k = k e
 struct_found whole name meant fields (declaration.Class at line kind class items ∷ ds) w e = chosen (bytes_eq class.text name) e (struct_found whole name meant fields ds w.1) where
   chosen : (b : Bool) → (if b then AClass name (is_regular kind) items else meant_by name ds) ≡ AStruct meant fields
-      → (meant_by name ds ≡ AStruct meant fields → (name ≡ meant) × (struct_named name ds ≡ Some fields) × Every (WellDeclared whole) (declared_fields InStruct fields))
-      → (name ≡ meant) × (struct_named name ds ≡ Some fields) × Every (WellDeclared whole) (declared_fields InStruct fields)
+      → (meant_by name ds ≡ AStruct meant fields → (name ≡ meant) × Every (WellDeclared whole) (declared_fields InStruct fields))
+      → (name ≡ meant) × Every (WellDeclared whole) (declared_fields InStruct fields)
   chosen true e k = absurd cc
   chosen false e k = k e
 struct_found whole name meant fields (declaration.Function at result function formals body ∷ ds) w e = struct_found whole name meant fields ds w.1 e
 
 pub struct_of : {ds : List Declaration} → WellProgram ds → (name meant : List ℕ) (fields : List Field) → meant_by name ds ≡ AStruct meant fields
-    → (name ≡ meant) × (struct_named name ds ≡ Some fields) × Every (WellDeclared ds) (declared_fields InStruct fields)
+    → (name ≡ meant) × Every (WellDeclared ds) (declared_fields InStruct fields)
 struct_of {ds} well name meant fields e = struct_found ds name meant fields ds well.each e
 
 -- ---- the words of a type
@@ -63,7 +63,7 @@ struct_of {ds} well name meant fields e = struct_found ds name meant fields ds w
 abbrev pub size : List Declaration → ValueType → ℕ
 size ds OfInt = 1
 size ds OfBool = 1
-size ds (OfStruct name) = words_of_named (struct_named name ds) (class_named name (classes_of ds))
+size ds (OfStruct name) = words_of_one (meant_by name ds)
 size ds (OfClass name) = 1
 
 -- what has this type has so many words
@@ -132,16 +132,6 @@ own_size ds (InMember result) (Some class) e = chosen class.is_regular e where
 
 -- ---- the words of what is declared
 
-regular_words : (b : Bool) → b ≡ false → ◌≡◌ {A = ℕ} (if b then 0 else 1) 1
-regular_words true e = absurd cc
-regular_words false e = refl
-
-persistent_words : {ds : List Declaration} → WellProgram ds → (name meant : List ℕ) (items : List Item) → meant_by name ds ≡ AClass meant false items
-    → words_of_named (struct_named name ds) (class_named name (classes_of ds)) ≡ 1
-persistent_words {ds} well name meant items e =
-    let c = class_of well name meant false items e in
-    ap (λ s. words_of_named s (class_named name (classes_of ds))) c.absent ∙ (ap words_of_class c.found ∙ regular_words c.class.is_regular c.is_regular)
-
 some_type : {a b : ValueType} → ◌≡◌ {A = Option ValueType} (Some a) (Some b) → a ≡ b
 some_type e = cc
 
@@ -174,15 +164,15 @@ pub type_words : {ds : List Declaration} → WellProgram ds → (role : Role) (t
 type_words {ds} well role (type.Int at) v e = ap (size ds) (some_type e)
 type_words {ds} well role (type.Bool at) v e = ap (size ds) (some_type e)
 type_words {ds} well role (type.Named at name) v e = named (meant_by name.text ds) refl e where
-  named : (m : Meant) → meant_by name.text ds ≡ m → value_type role m ≡ Some v → words_of_named (struct_named name.text ds) (class_named name.text (classes_of ds)) ≡ size ds v
+  named : (m : Meant) → meant_by name.text ds ≡ m → value_type role m ≡ Some v → words_of_one (meant_by name.text ds) ≡ size ds v
   named AnInt i e = absurd (not_int name.text ds i)
   named ABool i e = absurd (not_bool name.text ds i)
   named (AStruct n fields) i e = field (is_field role) e where
-    field : (b : Bool) → (if b then None else Some (OfStruct n)) ≡ Some v → words_of_named (struct_named name.text ds) (class_named name.text (classes_of ds)) ≡ size ds v
+    field : (b : Bool) → (if b then None else Some (OfStruct n)) ≡ Some v → words_of_one (meant_by name.text ds) ≡ size ds v
     field true e = absurd cc
     field false e = ap (λ w. size ds (OfStruct w)) (struct_of well name.text n fields i).0 ∙ ap (size ds) (some_type e)
   named (AClass n true items) i e = absurd cc
-  named (AClass n false items) i e = persistent_words well name.text n items i ∙ ap (size ds) (some_type e)
+  named (AClass n false items) i e = ap words_of_one i ∙ ap (size ds) (some_type e)
   named types.Nothing i e = absurd cc
 
 one_value : (dimension : Option Dimension) (t : Option ValueType) (v : ValueType) → option_map (shape_with dimension) t ≡ Some (OneValue v) → (dimension ≡ None) × (t ≡ Some v)
@@ -245,10 +235,10 @@ field_words {ds} well field (type.Int at) dimension w = refl
 field_words {ds} well field (type.Bool at) dimension w = refl
 field_words {ds} well field (type.Named at name) (Some dimension) w = refl
 field_words {ds} well field (type.Named at name) None w = named (meant_by name.text ds) refl w.0 where
-  named : (m : Meant) → meant_by name.text ds ≡ m → is_some (shape_of_meant InStruct None m) ≡ true → words_of_named (struct_named name.text ds) (class_named name.text (classes_of ds)) ≡ 1
+  named : (m : Meant) → meant_by name.text ds ≡ m → is_some (shape_of_meant InStruct None m) ≡ true → words_of_one (meant_by name.text ds) ≡ 1
   named AnInt i e = absurd (not_int name.text ds i)
   named ABool i e = absurd (not_bool name.text ds i)
   named (AStruct n fields) i e = absurd cc
   named (AClass n true items) i e = absurd cc
-  named (AClass n false items) i e = persistent_words well name.text n items i
+  named (AClass n false items) i e = ap words_of_one i
   named types.Nothing i e = absurd cc

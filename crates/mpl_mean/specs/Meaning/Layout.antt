@@ -103,12 +103,28 @@ function_named name (declaration.Class at line kind class items ∷ others) = fu
 function_named name (declaration.Function at result function formals body ∷ others) =
     if bytes_eq function.text name then Some (record { result = result; formals = formals_of formals; body = body }) else function_named name others
 
-abbrev pub struct_named : List ℕ → List Declaration → Option (List Field)
-struct_named name [] = None
-struct_named name (declaration.Struct at line struct fields ∷ others) =
-    if bytes_eq struct.text name then Some fields else struct_named name others
-struct_named name (declaration.Class at line kind class items ∷ others) = struct_named name others
-struct_named name (declaration.Function at result function formals body ∷ others) = struct_named name others
+-- ---- what a type's name stands for
+
+pub data Meant : Type 0 where
+  AnInt : Meant
+  ABool : Meant
+  AStruct : (name : List ℕ) → List Field → Meant
+  AClass : (name : List ℕ) → (is_regular : Bool) → List Item → Meant
+  Nothing : Meant
+
+-- the first struct or class of that name
+abbrev pub meant_by : List ℕ → List Declaration → Meant
+meant_by name [] = Nothing
+meant_by name (declaration.Struct at line struct fields ∷ others) =
+    if bytes_eq struct.text name then AStruct name fields else meant_by name others
+meant_by name (declaration.Class at line kind class items ∷ others) =
+    if bytes_eq class.text name then AClass name (is_regular kind) items else meant_by name others
+meant_by name (declaration.Function at result function formals body ∷ others) = meant_by name others
+
+abbrev pub meant : List Declaration → TypeName → Meant
+meant ds (type.Int at) = AnInt
+meant ds (type.Bool at) = ABool
+meant ds (type.Named at name) = meant_by name.text ds
 
 -- ---- words
 
@@ -127,21 +143,23 @@ words_of_word (Some dimension) = dimension
 abbrev pub words_of_fields : List Field → ℕ
 words_of_fields fields = sum_by (λ (field : Field). sum_by (λ (name : FieldName). words_of_word (dimension_of name.dimension)) field.names) fields
 
--- a persistent class has a word, the number of its object, and a regular one has none
-abbrev pub words_of_class : Option Class → ℕ
-words_of_class None = 1
-words_of_class (Some class) = if class.is_regular then 0 else 1
+-- the words of one value of what a type's name stands for: a local of a regular class has none, a persistent class one, the
+-- number of its object, and a name that stands for nothing counts one
+abbrev pub words_of_one : Meant → ℕ
+words_of_one AnInt = 1
+words_of_one ABool = 1
+words_of_one (AStruct name fields) = words_of_fields fields
+words_of_one (AClass name true items) = 0
+words_of_one (AClass name false items) = 1
+words_of_one Nothing = 1
 
-abbrev pub words_of_named : Option (List Field) → Option Class → ℕ
-words_of_named (Some fields) class = words_of_fields fields
-words_of_named None class = words_of_class class
+abbrev pub words_of_meant : Meant → Option ℕ → ℕ
+words_of_meant m None = words_of_one m
+words_of_meant m (Some dimension) = dimension
 
 -- the words of a variable of a type, with a dimension or without
 abbrev pub words_of : List Declaration → TypeName → Option ℕ → ℕ
-words_of ds (type.Int at) dimension = words_of_word dimension
-words_of ds (type.Bool at) dimension = words_of_word dimension
-words_of ds (type.Named at name) None = words_of_named (struct_named name.text ds) (class_named name.text (classes_of ds))
-words_of ds (type.Named at name) (Some dimension) = dimension
+words_of ds type dimension = words_of_meant (meant ds type) dimension
 
 -- ---- parts
 
@@ -176,14 +194,16 @@ abbrev pub part_named : List ℕ → List Part → Option Part
 part_named name [] = None
 part_named name (part ∷ parts) = if bytes_eq part.name name then Some part else part_named name parts
 
--- the parts of a type that is a struct
+-- the parts of a struct, and what is none has no parts
+abbrev pub parts_of_meant : List Declaration → Meant → List Part
+parts_of_meant ds AnInt = []
+parts_of_meant ds ABool = []
+parts_of_meant ds (AStruct name fields) = parts_of ds fields
+parts_of_meant ds (AClass name regular items) = []
+parts_of_meant ds Nothing = []
+
 abbrev pub parts_of_type : List Declaration → TypeName → List Part
-parts_of_type ds (type.Int at) = []
-parts_of_type ds (type.Bool at) = []
-parts_of_type ds (type.Named at name) = parts_of_struct (struct_named name.text ds) where
-  parts_of_struct : Option (List Field) → List Part
-  parts_of_struct None = []
-  parts_of_struct (Some fields) = parts_of ds fields
+parts_of_type ds type = parts_of_meant ds (meant ds type)
 
 -- the class of a type that is one
 abbrev pub class_of_type : List Declaration → TypeName → Option Class

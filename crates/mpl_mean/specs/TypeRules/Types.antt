@@ -9,11 +9,11 @@ use Rattle.mpl_ast.specs.declared.class.Item.{Item}
 use Rattle.mpl_ast.specs.declared.class.ResultType.{ResultType}
 use Rattle.mpl_ast.specs.declared.class.ResultType.TheVariants as result
 use Rattle.mpl_ast.specs.declared.program.Declaration.{Declaration}
-use Rattle.mpl_ast.specs.declared.program.Declaration.TheVariants as declaration
 use Rattle.mpl_ast.specs.declared.statement.Dimension.{Dimension}
 use Rattle.mpl_ast.specs.declared.statement.TypeName.{TypeName}
 use Rattle.mpl_ast.specs.declared.statement.TypeName.TheVariants as type
-use Rattle.mpl_mean.specs.Meaning.Layout.{is_regular, dimension_of, words_of_word, words_of_fields}
+use Rattle.mpl_mean.specs.Meaning.Layout.{dimension_of, words_of_word, words_of_fields}
+pub use Rattle.mpl_mean.specs.Meaning.Layout.{Meant, AnInt, ABool, AStruct, AClass, Nothing, meant_by, meant, words_of_meant}
 
 -- ---- the types of values
 
@@ -42,29 +42,6 @@ abbrev pub agree : Option ValueType → Option ValueType → Bool
 agree None b = true
 agree (Some a) None = true
 agree (Some a) (Some b) = same_type a b
-
--- ---- what a type's name stands for
-
-pub data Meant : Type 0 where
-  AnInt : Meant
-  ABool : Meant
-  AStruct : (name : List ℕ) → List Field → Meant
-  AClass : (name : List ℕ) → (is_regular : Bool) → List Item → Meant
-  Nothing : Meant
-
--- the first struct or class of that name
-abbrev pub meant_by : List ℕ → List Declaration → Meant
-meant_by name [] = Nothing
-meant_by name (declaration.Struct at line struct fields ∷ others) =
-    if bytes_eq struct.text name then AStruct name fields else meant_by name others
-meant_by name (declaration.Class at line kind class items ∷ others) =
-    if bytes_eq class.text name then AClass name (is_regular kind) items else meant_by name others
-meant_by name (declaration.Function at result function formals body ∷ others) = meant_by name others
-
-abbrev pub meant : List Declaration → TypeName → Meant
-meant ds (type.Int at) = AnInt
-meant ds (type.Bool at) = ABool
-meant ds (type.Named at name) = meant_by name.text ds
 
 -- ---- where a type is written
 
@@ -143,12 +120,7 @@ shape_of ds (Some d) = shape_of_meant d.role d.dimension (meant ds d.type)
 
 -- ---- words
 
--- a formal or local: a name that stands for no type counts one word for each element
-abbrev pub words_of_meant : Meant → Option ℕ → ℕ
-words_of_meant (AStruct name fields) None = words_of_fields fields
-words_of_meant (AClass name true items) None = 0
-words_of_meant m dimension = words_of_word dimension
-
+-- formals and locals
 abbrev pub words_of_variables : List Declaration → List Declared → ℕ
 words_of_variables ds variables = sum_by (λ (d : Declared). words_of_meant (meant ds d.type) (dimension_of d.dimension)) variables
 
