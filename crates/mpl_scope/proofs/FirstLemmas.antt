@@ -1,5 +1,5 @@
 -- A table of the first of each name after one is added.
-use Rattle.std.proofs.Common.{◌≡◌, ℕ, Bool, true, false, List, cond, Option, Some, None, if◌then◌else◌, is_some, refl, ap, sym, ◌∙◌}
+use Rattle.std.proofs.Common.{◌≡◌, ℕ, Bool, true, false, List, cond, Option, Some, None, if◌then◌else◌, refl, ap, sym, ◌∙◌}
 use Rattle.std.proofs.lemmas.Slice.Eq.{bytes_eq-Decides}
 use Rattle.std.specs.Map.{update}
 use Rattle.std.specs.Str.{bytes_eq}
@@ -17,6 +17,14 @@ pub added : {V : Type 0} (f g : List ℕ → Option V) (name : List ℕ) (v : V)
     → (q : List ℕ) → g q ≡ with_first name v f q
 added f g name v none is q = added_by v (f q) (g q) (bytes_eq name q) (is q) (λ e. ap f (sym (same_name name q e)) ∙ none)
 
-pub absent : {V : Type 0} (o : Option V) → is_some o ≡ false → o ≡ None
-absent None h = refl
-absent (Some v) h = absurd cc
+restored_by : {V : Type 0} (v first : V) (o p r : Option V) (b : Bool) → p ≡ cond b (Some v) o → r ≡ cond b (Some first) p → (b ≡ true → o ≡ Some first)
+    → r ≡ or_else o (if b then Some v else None)
+restored_by v first o p r true put back had = back ∙ ap (λ x. or_else x (Some v)) (sym (had refl))
+restored_by v first None p r false put back had = back ∙ put
+restored_by v first (Some x) p r false put back had = back ∙ put
+
+-- the one that was there is put back
+pub restored : {V : Type 0} (f g h : List ℕ → Option V) (name : List ℕ) (v first : V) → f name ≡ Some first → ((q : List ℕ) → g q ≡ update bytes_eq f name (Some v) q)
+    → ((q : List ℕ) → h q ≡ update bytes_eq g name (Some first) q) → (q : List ℕ) → h q ≡ with_first name v f q
+restored f g h name v first had put back q =
+    restored_by v first (f q) (g q) (h q) (bytes_eq name q) (put q) (back q) (λ e. ap f (sym (same_name name q e)) ∙ had)

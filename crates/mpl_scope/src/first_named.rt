@@ -33,10 +33,9 @@ impl<'a, V: Drop> FirstNamed<'a, V> {
         ensures ok { OnOk result ((q : List ℕ) → at self.new q ≡ with_first name.now value (at self.old) q) }
         ensures err { OnErr result ((q : List ℕ) → at self.new q ≡ at self.old q) }
     {
-        if self.map.contains_key(&name) {
-            return Ok(());
+        if let Some(first) = self.map.insert(name, value)? {
+            self.map.insert(name, first)?;
         }
-        self.map.insert(name, value)?;
         Ok(())
     }
 }

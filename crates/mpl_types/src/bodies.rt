@@ -180,7 +180,8 @@ fn function_body<'a>(name: &[u8], declared: &'a TypeName) -> Body<'a>
     }
 }
 
-fn check_inside<'a>(
+/// The bodies and guards of a declaration.
+pub fn check_inside<'a>(
     alloc: Global,
     outline: &'a Outline<'a>,
     declaration: &'a Declaration,
@@ -202,20 +203,4 @@ fn check_inside<'a>(
             Ok(earlier(found, None))
         }
     }
-}
-
-/// The bodies and guards of all declarations.
-#[tactic(auto, using(std::proofs::lemmas::Grind::common_steps, crate::proofs::LeastLemmas::earlier_assoc, crate::proofs::LeastLemmas::earlier_none, crate::proofs::LoopLemmas::insides_append))]
-pub fn check_insides<'a>(
-    alloc: Global,
-    outline: &'a Outline<'a>,
-    declarations: &'a [Declaration],
-) -> Result<Option<Failure>, NoMemory>
-    ensures { IfOk result (λ failure. failure_of failure ≡ insides_least (flat_map (nodes.inside_declaration (scopes.at_top outline.now)) declarations.now)) }
-{
-    let mut found = None;
-    for declaration in declarations {
-        found = earlier(found, check_inside(alloc, outline, declaration)?);
-    }
-    Ok(found)
 }

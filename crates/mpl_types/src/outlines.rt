@@ -1,12 +1,11 @@
 //! The declarations of a program, without their bodies and guards.
 
-ghost use Rattle.std.specs.Prelude.{◌≡◌, [], IfOk};
+ghost use Rattle.std.specs.Prelude.{◌≡◌, IfOk};
 ghost use Rattle.std.specs.List.{list_any};
 ghost use Rattle.mpl_mean.specs.TypeRules.NameRules as rules;
 ghost use Rattle.mpl_mean.specs.TypeRules.ProgramNodes as nodes;
 ghost use Rattle.mpl_mean.specs.TypeRules.SizeRules as sizes;
-ghost use Rattle.mpl_types.specs.Internal.Least.{noted};
-ghost use Rattle.mpl_types.specs.Internal.Outlines.{declaration_least, declarations_least, parts_least};
+ghost use Rattle.mpl_types.specs.Internal.Outlines.{declaration_least, parts_least};
 ghost use Rattle.mpl_types.specs.Internal.Seen.{failure_of};
 
 use crate::classes::check_items;
@@ -34,7 +33,7 @@ const MOST_DECLARATIONS: usize = 4096;
 /// The most words of a struct and of a state.
 const MOST_WORDS: u64 = 256;
 
-fn name_of(declaration: &Declaration) -> &Name
+pub fn name_of(declaration: &Declaration) -> &Name
     ensures { result.now ≡ nodes.declared_name declaration.now }
 {
     match declaration {
@@ -118,7 +117,7 @@ fn check_parts<'a>(
     }
 }
 
-fn check_declaration<'a>(
+pub fn check_declaration<'a>(
     alloc: Global,
     outline: &'a Outline<'a>,
     before: usize,
@@ -136,38 +135,8 @@ fn check_declaration<'a>(
     Ok(noted(at, 3, main_is_right(declaration), of_size))
 }
 
-#[tactic(auto, using(std::proofs::lemmas::Grind::common_steps, crate::proofs::LeastLemmas::earlier_assoc, crate::proofs::LeastLemmas::earlier_none))]
-fn check_declarations<'a>(
-    alloc: Global,
-    outline: &'a Outline<'a>,
-    declarations: &'a [Declaration],
-) -> Result<Option<Failure>, NoMemory>
-    ensures { IfOk result (λ failure. failure_of failure ≡ declarations_least outline.now 0 [] declarations.now) }
-{
-    let mut names = Earlier::new(alloc);
-    let mut found = None;
-    for i in 0..declarations.len() {
-        let declaration = &declarations[i];
-        let failure = check_declaration(alloc, outline, i, &names, declaration)?;
-        found = earlier(found, failure);
-        names.add(name_of(declaration).text.as_slice())?;
-    }
-    Ok(found)
-}
-
-fn has_main(declarations: &[Declaration]) -> bool
+pub fn has_main(declarations: &[Declaration]) -> bool
     ensures { result ≡ list_any rules.is_named_main declarations.now }
 {
     declarations.iter().any(is_named_main)
-}
-
-pub fn check_outline<'a>(
-    alloc: Global,
-    outline: &'a Outline<'a>,
-    declarations: &'a [Declaration],
-) -> Result<Option<Failure>, NoMemory>
-    ensures { IfOk result (λ failure. failure_of failure ≡ noted 0 3 (list_any rules.is_named_main declarations.now) (declarations_least outline.now 0 [] declarations.now)) }
-{
-    let of_declarations = check_declarations(alloc, outline, declarations)?;
-    Ok(noted(0, 3, has_main(declarations), of_declarations))
 }

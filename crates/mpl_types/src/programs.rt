@@ -13,12 +13,13 @@ ghost use Rattle.mpl_types.specs.Internal.Outlines.{declarations_least};
 ghost use Rattle.mpl_types.specs.Internal.Programs.{insides_least, program_least};
 ghost use Rattle.mpl_types.specs.Internal.Seen.{failure_of};
 
-use crate::bodies::check_insides;
-use crate::failure::{Failure, earlier};
+use crate::bodies::check_inside;
+use crate::failure::{Failure, earlier, noted};
 use crate::fault::TypeFault;
-use crate::outlines::check_outline;
+use crate::outlines::{check_declaration, has_main, name_of};
 use mpl_ast::program::{Declaration, Program};
 use mpl_mean::Typed;
+use mpl_scope::earlier::Earlier;
 use mpl_scope::outline::Outline;
 use mpl_value::NoMemory;
 use std::alloc::Global;
@@ -57,7 +58,29 @@ fn find_failure<'a>(alloc: Global, program: &'a Program) -> Result<Option<Failur
     Ok(failure)
 }
 
-/// The outline, and then what is inside the bodies.
+/// The least failure in the outline of the declarations, and the least inside their bodies and guards.
+#[tactic(auto, using(std::proofs::lemmas::Grind::common_steps, crate::proofs::LeastLemmas::earlier_assoc, crate::proofs::LeastLemmas::earlier_none, crate::proofs::LoopLemmas::insides_append))]
+fn check_declarations<'a>(
+    alloc: Global,
+    outline: &'a Outline<'a>,
+    declarations: &'a [Declaration],
+) -> Result<(Option<Failure>, Option<Failure>), NoMemory>
+    ensures outline { IfOk result (λ found. failure_of found.0 ≡ declarations_least outline.now 0 [] declarations.now) }
+    ensures insides { IfOk result (λ found. failure_of found.1 ≡ insides_least (flat_map (inside_declaration (at_top outline.now)) declarations.now)) }
+{
+    let mut names = Earlier::new(alloc);
+    let mut found = None;
+    let mut inside = None;
+    for i in 0..declarations.len() {
+        let declaration = &declarations[i];
+        let failure = check_declaration(alloc, outline, i, &names, declaration)?;
+        found = earlier(found, failure);
+        inside = earlier(inside, check_inside(alloc, outline, declaration)?);
+        names.add(name_of(declaration).text.as_slice())?;
+    }
+    Ok((found, inside))
+}
+
 fn find_least<'o, 'a>(
     alloc: Global,
     outline: &'o Outline<'a>,
@@ -67,7 +90,7 @@ fn find_least<'o, 'a>(
         (noted 0 3 (list_any is_named_main declarations.now) (declarations_least outline.now 0 [] declarations.now))
         (insides_least (flat_map (inside_declaration (at_top outline.now)) declarations.now))) }
 {
-    let of_outline = check_outline(alloc, outline, declarations)?;
-    let of_insides = check_insides(alloc, outline, declarations)?;
+    let (of_declarations, of_insides) = check_declarations(alloc, outline, declarations)?;
+    let of_outline = noted(0, 3, has_main(declarations), of_declarations);
     Ok(earlier(of_outline, of_insides))
 }
