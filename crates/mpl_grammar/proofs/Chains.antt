@@ -1,11 +1,11 @@
 -- Operands with operators between them are an expression.
 use Rattle.std.proofs.Common.{◌≡◌, ℕ, zero, suc, ◌+◌, Bool, true, false, ◌||◌, List, ◌∷◌, refl, sym, ◌⊎◌, inl, inr}
-use Rattle.mpl_ast.specs.declared.expression.Conjunction.{fold-roll-Conjunction, roll-Conjunction}
-use Rattle.mpl_ast.specs.declared.expression.Equality.{fold-roll-Equality, roll-Equality}
-use Rattle.mpl_ast.specs.declared.expression.Expression.{fold-roll-Expression, roll-Expression}
-use Rattle.mpl_ast.specs.declared.expression.Relation.{fold-roll-Relation, roll-Relation}
-use Rattle.mpl_ast.specs.declared.expression.Sum.{fold-roll-Sum, roll-Sum}
-use Rattle.mpl_ast.specs.declared.expression.Term.{fold-roll-Term, roll-Term}
+use Rattle.mpl_ast.specs.declared.expression.Conjunction.{roll-Conjunction}
+use Rattle.mpl_ast.specs.declared.expression.Equality.{roll-Equality}
+use Rattle.mpl_ast.specs.declared.expression.Expression.{roll-Expression}
+use Rattle.mpl_ast.specs.declared.expression.Relation.{roll-Relation}
+use Rattle.mpl_ast.specs.declared.expression.Sum.{roll-Sum}
+use Rattle.mpl_ast.specs.declared.expression.Term.{roll-Term}
 use Rattle.mpl_ast.specs.declared.expression.Conjunction.TheOpen.{Conjunction-F, Equality-F, Expression-F, Relation-F, Sum-F, Term-F}
 use Rattle.mpl_ast.specs.declared.expression.EqualityOperator.{EqualityOperator}
 use Rattle.mpl_ast.specs.declared.expression.EqualityOperator.TheVariants.{Equal, Unequal}
@@ -19,9 +19,8 @@ use Rattle.mpl_ast.specs.declared.token.Mark.TheVariants as m
 use Rattle.mpl_ast.specs.declared.token.Token.{Token}
 use Rattle.mpl_ast.specs.declared.token.TokenKind.{TokenKind}
 use Rattle.mpl_mean.specs.FirstForms.ExpressionLevels.{conjunction_text, equality_text, relation_text, sum_text, term_text, unary_text}
-use Rattle.mpl_mean.specs.Text.ExpressionText as text
 use Rattle.mpl_mean.specs.Text.ExpressionText.{equality_mark, expression_text, relation_mark, sum_mark, term_mark}
-use Rattle.mpl_mean.specs.Text.Reading.{Reads, is_mark}
+use Rattle.mpl_mean.specs.Text.Reading.{is_mark}
 use Rattle.mpl_mean.proofs.Readers.Parts.{told}
 use Rattle.mpl_grammar.specs.Internal.Kinds.{is_equality_operator, is_operator, is_relation_operator, is_sum_operator, is_term_operator}
 use Rattle.mpl_grammar.proofs.Makes.{Makes, ◌▸◌, place_of, reads-mark_on, reads-node, rest_at}

@@ -21,4 +21,5 @@ pub mod Growth
 pub mod FaultsFit
 pub mod WeightLaws
 pub mod Stepping
+pub mod Reversed
 pub mod OneFault

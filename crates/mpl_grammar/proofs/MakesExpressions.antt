@@ -1,8 +1,8 @@
 -- Trees of operands, flows and assignments, from their tokens.
 use Rattle.std.proofs.Common.{◌≡◌, ◌+◌, Bool, true, false, ◌||◌, List, ◌∷◌, refl, sym, ◌⊎◌, inl, inr}
-use Rattle.mpl_ast.specs.declared.expression.Place.{fold-roll-Place, roll-Place}
-use Rattle.mpl_ast.specs.declared.expression.Primary.{fold-roll-Primary, roll-Primary}
-use Rattle.mpl_ast.specs.declared.expression.Unary.{fold-roll-Unary, roll-Unary}
+use Rattle.mpl_ast.specs.declared.expression.Place.{roll-Place}
+use Rattle.mpl_ast.specs.declared.expression.Primary.{roll-Primary}
+use Rattle.mpl_ast.specs.declared.expression.Unary.{roll-Unary}
 use Rattle.mpl_ast.specs.declared.expression.Conjunction.TheOpen.{Place-F, Primary-F, Unary-F}
 use Rattle.mpl_ast.specs.declared.expression.Target.TheVariants as target
 use Rattle.mpl_ast.specs.declared.expression.UnaryOperator.{UnaryOperator}
@@ -15,7 +15,6 @@ use Rattle.mpl_ast.specs.declared.token.Mark.TheVariants as m
 use Rattle.mpl_ast.specs.declared.token.Token.{Token}
 use Rattle.mpl_ast.specs.declared.token.TokenKind.{TokenKind}
 use Rattle.mpl_mean.specs.FirstForms.ExpressionLevels.{primary_text, unary_text}
-use Rattle.mpl_mean.specs.Text.ExpressionText as text
 use Rattle.mpl_mean.specs.Text.ExpressionText.{expression_text, place_text, target_text, unary_mark}
 use Rattle.mpl_mean.specs.Text.Reading.{Reads, is_keyword, is_mark}
 use Rattle.mpl_mean.specs.Text.StatementText as statement

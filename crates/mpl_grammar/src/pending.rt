@@ -7,18 +7,17 @@ ghost use Rattle.mpl_grammar.specs.Internal.Taking.{WasTaken};
 use crate::symbol::Symbol;
 use mpl_value::NoMemory;
 use std::alloc::Global;
-use std::collections::VecDeque;
 use std::marker::Model;
 
-/// What is still to come, first the next, and how much that weighs.
+/// What is still to come, and how much that weighs. The symbols lie with the next one last.
 #[derive(Drop)]
 pub struct Pending {
-    symbols: VecDeque<Symbol>,
+    symbols: Vec<Symbol>,
     total: u32,
 }
 
 impl Model for Pending {
-    ghost use Rattle.std.specs.Prelude.{List, ◌≡◌};
+    ghost use Rattle.std.specs.Prelude.{List, ◌≡◌, reverse};
     ghost use Rattle.std.specs.Coded.{codes};
     ghost use Rattle.mpl_grammar.specs.declared.symbol.Symbol.{Symbol};
     ghost use Rattle.mpl_grammar.specs.contracts.symbol.Symbol as symbol;
@@ -28,9 +27,9 @@ impl Model for Pending {
 
     ghost coded = { Prim.hlevel (codes, symbol.the_row.coded) };
 
-    ghost view = { λ p. p.symbols.items };
+    ghost view = { λ p. reverse p.symbols.items };
 
-    ghost invariant = { λ p. p.total ≡ machine.weight p.symbols.items };
+    ghost invariant = { λ p. p.total ≡ machine.weight (reverse p.symbols.items) };
 }
 
 /// How much heavier it is where the symbol is to come.
@@ -51,13 +50,20 @@ fn added(symbol: Symbol) -> u32
     }
 }
 
+/// In whichever order they come.
+fn all_may_end(symbols: &[Symbol]) -> bool
+    ensures { result ≡ list_all grammar.may_end symbols.now }
+{
+    symbols.iter().all(|symbol| symbol.may_end())
+}
+
 impl Pending {
     /// Nothing, which is between two declarations.
     pub fn new(alloc: Global) -> Pending
         ensures { result ≡ [] }
     {
         Pending {
-            symbols: VecDeque::new(alloc),
+            symbols: Vec::new(alloc),
             total: 0,
         }
     }
@@ -70,29 +76,32 @@ impl Pending {
     }
 
     /// Nothing more has to come.
+    #[tactic(auto, using(crate::proofs::Reversed::all_reversed))]
     pub fn may_end(&self) -> bool
         ensures { result ≡ list_all grammar.may_end self.now }
     {
-        self.symbols.iter().all(|symbol| symbol.may_end())
+        all_may_end(self.symbols.as_slice())
     }
 
     /// One symbol more, which is the next.
+    #[tactic(auto, using(crate::proofs::Reversed::pushed_on))]
     pub fn push(&mut self, symbol: Symbol) -> Result<(), NoMemory>
         requires { machine.heavier symbol (machine.weight self.old) < 2 ^ 32 }
         ensures ok { OnOk result (self.new ≡ symbol ∷ self.old) }
         ensures err { OnErr result (self.new ≡ self.old) }
     {
         let more = added(symbol);
-        self.symbols.push_front(symbol)?;
+        self.symbols.push(symbol)?;
         self.total += more;
         Ok(())
     }
 
     /// The next symbol, which is so no more.
+    #[tactic(auto, using(crate::proofs::Reversed::popped_off))]
     pub fn pop(&mut self) -> Option<Symbol>
         ensures { MatchOption result ((self.old ≡ []) × (self.new ≡ [])) (λ symbol. self.old ≡ symbol ∷ self.new) }
     {
-        let symbol = self.symbols.pop_front()?;
+        let symbol = self.symbols.pop()?;
         self.total -= added(symbol);
         Some(symbol)
     }
@@ -104,9 +113,10 @@ impl Pending {
         requires { machine.weight (symbols.now ++ self.old) < 2 ^ 32 }
         ensures { IfOk result (λ taken. (taken ≡ true) × (self.new ≡ symbols.now ++ self.old)) }
     {
-        if let Some((first, rest)) = symbols.split_first() {
-            self.push_all(rest)?;
-            self.push(*first)?;
+        let mut left = symbols.len();
+        while left > 0 {
+            left -= 1;
+            self.push(symbols[left])?;
         }
         Ok(true)
     }

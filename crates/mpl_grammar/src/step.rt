@@ -12,6 +12,8 @@ use mpl_value::NoMemory;
 
 impl Pending {
     /// The token, where the symbol that was the next takes it. It says whether it does.
+    // Inlined, all its tests would be made before the loop over the symbols, for each token.
+    #[inline(never)]
     pub fn take(&mut self, symbol: Symbol, kind: &TokenKind) -> Result<bool, NoMemory>
         requires { machine.heavier symbol (machine.weight self.old) ≤ most_weight }
         ensures { IfOk result (λ taken. WasTaken (machine.takes symbol kind.now) taken self.old self.new) }

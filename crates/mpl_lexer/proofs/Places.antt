@@ -7,7 +7,6 @@ use Rattle.std.proofs.lemmas.Bool.{cond_both}
 use Rattle.std.proofs.lemmas.Bool.Decides.{Decides-eqb}
 use Rattle.std.proofs.lemmas.List.{length-drop, drop-drop}
 use Rattle.std.proofs.lemmas.List.Elements.{All-cons}
-use Rattle.std.proofs.lemmas.List.Folds.{length-prefix_len}
 use Rattle.std.proofs.lemmas.Slice.Eq.{bytes_eq-Decides}
 use Rattle.mpl_ast.specs.declared.token.Keyword.{Keyword}
 use Rattle.mpl_ast.specs.declared.token.Mark.{Mark}
@@ -17,7 +16,7 @@ use Rattle.mpl_ast.specs.declared.token.TokenKind.TheVariants as kind
 use Rattle.mpl_mean.specs.Text.TokenTable.{keyword_spelling, keywords, mark_spelling, marks}
 use Rattle.mpl_mean.specs.Text.Lexemes.{Lexeme, Gap, Word, Fault, WideNumber, lexeme, word_kind, is_blank, is_letter, is_digit, continues_name, value_of, comment_lexeme, number_lexeme, mark_lexeme, tokens_from, tokens_of, with_token, line_after}
 use Rattle.mpl_lexer.specs.Spans.{SpansRise, IsSpelled, StandsIn, AreSpansOf}
-use Rattle.mpl_lexer.proofs.Words.{IsWithin, lexeme_within, find_passes}
+use Rattle.mpl_lexer.proofs.Words.{IsWithin, lexeme_within, find_passes, take_while-front}
 use Rattle.mpl_lexer.proofs.Steps.{Read, after, token_at}
 
 -- ---- the text of what stands at the front
@@ -26,9 +25,6 @@ abbrev IsText : List ℕ → Lexeme → Type 0
 IsText bytes (Gap n) = Unit {0}
 IsText bytes (Word n kind) = IsSpelled kind (take n bytes)
 IsText bytes (Fault fault) = Unit {0}
-
-take_while-front : (p : ℕ → Bool) (bytes : List ℕ) → take_while p bytes ≡ take (length (take_while p bytes)) bytes
-take_while-front p bytes = ap (λ n. take n bytes) (sym (length-prefix_len p bytes))
 
 keyword_or_name : (text bytes : List ℕ) (found : Option Keyword) → IfSome found (λ k. bytes_eq (keyword_spelling k) text ≡ true) → text ≡ bytes → IsSpelled (elim found as (λ x. TokenKind) [ None ↦ kind.Name text | Some k ↦ kind.Keyword k ]) bytes
 keyword_or_name text bytes None h e = e

@@ -1,10 +1,11 @@
 -- What stands at the front of some bytes has at least one of them, and none behind them.
-use Rattle.std.proofs.Common.{◌≡◌, ℕ, suc, ◌+◌, ◌<◌, ◌≤◌, List, [], ◌∷◌, length, take, drop, Some, None, Option, Bool, true, false, cond, eqb, ltb, nat_eq, ◌&&◌, ◌||◌, not, take_while, find, IfSome, IfOk, Result, Ok, Err, get_or, refl, ap, ◌∙◌, subst, arith, rules}
+use Rattle.std.proofs.Common.{◌≡◌, ℕ, suc, ◌+◌, ◌<◌, ◌≤◌, List, [], ◌∷◌, length, take, drop, Some, None, Option, Bool, true, false, cond, eqb, ltb, nat_eq, ◌&&◌, ◌||◌, not, take_while, find, IfSome, IfOk, Result, Ok, Err, get_or, refl, sym, ap, ◌∙◌, subst, arith, rules}
 use Rattle.std.specs.Prelude.{◌^◌, pos}
 use Rattle.std.specs.List.{starts_with, list_all, prefix_len}
 use Rattle.std.proofs.lemmas.Bool.{cond_both, cond-true, cond-false}
 use Rattle.std.proofs.lemmas.Bool.Decides.{nat_tests}
 use Rattle.std.proofs.lemmas.List.{length-take, length-drop}
+use Rattle.std.proofs.lemmas.List.Folds.{length-prefix_len}
 use Rattle.std.proofs.lemmas.List.Sums.{take_while-cons}
 use Rattle.std.proofs.lemmas.Slice.Eq.{bytes_eq-Decides}
 use Rattle.mpl_ast.specs.declared.token.Mark.{Mark}
@@ -77,6 +78,9 @@ not_feed : (b : ℕ) (bytes : List ℕ) → starts_with nat_eq (b ∷ bytes) (47
 not_feed b bytes e =
     let slash = (both_true (eqb 47 b) _ e).0 in
     grind (arith, nat_tests)
+
+pub take_while-front : (p : ℕ → Bool) (bytes : List ℕ) → take_while p bytes ≡ take (length (take_while p bytes)) bytes
+take_while-front p bytes = ap (λ n. take n bytes) (sym (length-prefix_len p bytes))
 
 letter_continues : (b : ℕ) → is_letter b ≡ true → continues_name b ≡ true
 letter_continues b e = ap (λ t. t || is_digit b) e

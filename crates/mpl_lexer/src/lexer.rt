@@ -52,8 +52,9 @@ pub fn lex(alloc: Global, source: &[u8]) -> Result<Tokens, LexFault>
                 to: to as u32,
             };
             list.push(Token { kind, span, line })?;
+        } else {
+            line += scan::line_feeds(&source[at..to]) as u32;
         }
-        line += scan::line_feeds(&source[at..to]) as u32;
         at = to;
     }
     Ok(Tokens {

@@ -1,4 +1,4 @@
-ghost use Rattle.std.specs.Prelude.{◌≡◌, ℕ, List, ◌∷◌, find, nat_eq};
+ghost use Rattle.std.specs.Prelude.{◌≡◌, ℕ, List, [], ◌∷◌, find, nat_eq, Some, if◌then◌else◌};
 ghost use Rattle.std.specs.List.{starts_with};
 ghost use Rattle.std.specs.Str.{bytes_eq};
 ghost use Rattle.mpl_mean.specs.Text.TokenTable.{keywords, keyword_spelling, marks, mark_spelling};
@@ -30,36 +30,6 @@ fn keywords_from(first: u8) -> &'static [Keyword]
         b't' => &[Keyword::True],
         b'v' => &[Keyword::Void],
         b'w' => &[Keyword::While],
-        _ => &[],
-    }
-}
-
-/// The marks that begin with the byte. A mark stands behind the longer marks that it begins.
-fn marks_from(first: u8) -> &'static [Mark]
-    ensures { (rest : List ℕ) → find (λ m. starts_with nat_eq (first ∷ rest) (mark_spelling m)) marks ≡ find (λ m. starts_with nat_eq (first ∷ rest) (mark_spelling m)) result.now }
-{
-    match first {
-        b'<' => &[Mark::LessEqual, Mark::Less],
-        b'>' => &[Mark::GreaterEqual, Mark::Greater],
-        b'=' => &[Mark::EqualEqual, Mark::Assign],
-        b'!' => &[Mark::NotEqual, Mark::Not],
-        b'&' => &[Mark::AndAnd],
-        b'|' => &[Mark::OrOr],
-        b'+' => &[Mark::PlusPlus, Mark::Plus],
-        b'-' => &[Mark::MinusMinus, Mark::Minus],
-        b'{' => &[Mark::OpenBrace],
-        b'}' => &[Mark::CloseBrace],
-        b'(' => &[Mark::OpenParenthesis],
-        b')' => &[Mark::CloseParenthesis],
-        b'[' => &[Mark::OpenBracket],
-        b']' => &[Mark::CloseBracket],
-        b';' => &[Mark::Semicolon],
-        b',' => &[Mark::Comma],
-        b'.' => &[Mark::Dot],
-        b':' => &[Mark::Colon],
-        b'*' => &[Mark::Star],
-        b'/' => &[Mark::Slash],
-        b'%' => &[Mark::Percent],
         _ => &[],
     }
 }
@@ -150,20 +120,51 @@ pub(crate) fn keyword(text: &[u8]) -> Option<Keyword>
     spelled(keywords_from(*first), text)
 }
 
-/// The first mark among these that stands at the front.
-fn standing(among: &[Mark], bytes: &[u8]) -> Option<Mark>
-    ensures { result ≡ find (λ m. starts_with nat_eq bytes.now (mark_spelling m)) among.now }
+/// The longer mark where the byte comes, and else the other.
+fn longer(rest: &[u8], byte: u8, long: Mark, short: Option<Mark>) -> Option<Mark>
+    ensures { result ≡ (if starts_with nat_eq rest.now (byte ∷ []) then Some long else short) }
 {
-    among
-        .iter()
-        .copied()
-        .find(|mark| bytes.starts_with(mark_spelling(*mark)))
+    if rest.starts_with(&[byte]) {
+        Some(long)
+    } else {
+        short
+    }
+}
+
+/// The longest mark that begins with the first byte, before the rest.
+fn mark_from(first: u8, rest: &[u8]) -> Option<Mark>
+    ensures { result ≡ find (λ m. starts_with nat_eq (first ∷ rest.now) (mark_spelling m)) marks }
+{
+    match first {
+        b'{' => Some(Mark::OpenBrace),
+        b'}' => Some(Mark::CloseBrace),
+        b'(' => Some(Mark::OpenParenthesis),
+        b')' => Some(Mark::CloseParenthesis),
+        b'[' => Some(Mark::OpenBracket),
+        b']' => Some(Mark::CloseBracket),
+        b';' => Some(Mark::Semicolon),
+        b',' => Some(Mark::Comma),
+        b'.' => Some(Mark::Dot),
+        b':' => Some(Mark::Colon),
+        b'*' => Some(Mark::Star),
+        b'/' => Some(Mark::Slash),
+        b'%' => Some(Mark::Percent),
+        b'=' => longer(rest, b'=', Mark::EqualEqual, Some(Mark::Assign)),
+        b'+' => longer(rest, b'+', Mark::PlusPlus, Some(Mark::Plus)),
+        b'-' => longer(rest, b'-', Mark::MinusMinus, Some(Mark::Minus)),
+        b'<' => longer(rest, b'=', Mark::LessEqual, Some(Mark::Less)),
+        b'>' => longer(rest, b'=', Mark::GreaterEqual, Some(Mark::Greater)),
+        b'!' => longer(rest, b'=', Mark::NotEqual, Some(Mark::Not)),
+        b'&' => longer(rest, b'&', Mark::AndAnd, None),
+        b'|' => longer(rest, b'|', Mark::OrOr, None),
+        _ => None,
+    }
 }
 
 /// The longest mark at the front.
 pub(crate) fn mark(bytes: &[u8]) -> Option<Mark>
     ensures { result ≡ find (λ m. starts_with nat_eq bytes.now (mark_spelling m)) marks }
 {
-    let (first, _) = bytes.split_first()?;
-    standing(marks_from(*first), bytes)
+    let (first, rest) = bytes.split_first()?;
+    mark_from(*first, rest)
 }
