@@ -1,11 +1,8 @@
 -- Numbers in code that are small enough to be counted on from a place.
-use Rattle.std.specs.Prelude.{ℕ, ◌^◌, ◌&&◌, Bool, true, nat_lt, List, length}
+use Rattle.std.specs.Prelude.{ℕ, ◌^◌, ◌&&◌, Bool, true, nat_lt, List}
 use Rattle.std.specs.List.{list_all}
 use Rattle.mpl_body_code.specs.declared.instruction.Instruction.{Instruction}
 use Rattle.mpl_body_code.specs.declared.instruction.Instruction.TheVariants as instruction
-
-abbrev pub is_small : ℕ → Bool
-is_small n = nat_lt n (2 ^ 62)
 
 abbrev pub is_counted : ℕ → Bool
 is_counted n = nat_lt n (2 ^ 63)
@@ -20,4 +17,4 @@ numbers_fit (instruction.PutElement line spot) = is_counted spot.offset && is_co
 numbers_fit other = true
 
 abbrev pub is_runnable : List Instruction → Bool
-is_runnable code = is_small (length code) && list_all numbers_fit code
+is_runnable code = list_all numbers_fit code

@@ -25,9 +25,6 @@ impl Model for Code {
     ghost invariant = { λ c. is_runnable c.list.items ≡ true };
 }
 
-/// No memory has more instructions.
-const MOST: usize = 4611686018427387903;
-
 impl Code {
     /// No instruction, which takes no memory.
     pub fn new(alloc: Global) -> Code
@@ -38,10 +35,9 @@ impl Code {
         }
     }
 
-    #[tactic(auto, using(crate::proofs::RunnableCode::few_runnable))]
     pub fn len(&self) -> usize
         ensures is { result ≡ length self.now }
-        ensures few { result < 2 ^ 62 }
+        ensures few { result < 2 ^ 63 }
     {
         self.list.len()
     }
@@ -52,20 +48,15 @@ impl Code {
         requires { numbers_fit instruction ≡ true }
         ensures { OnOk result (self.new ≡ self.old ++ instruction ∷ []) }
     {
-        if self.list.len() >= MOST {
-            return Err(NoMemory);
-        }
         self.list.push(instruction)?;
         Ok(())
     }
 
     /// More code, at the end.
+    #[tactic(auto, using(crate::proofs::RunnableCode::appended_runnable))]
     pub fn append(&mut self, more: &Code) -> Result<(), NoMemory>
         ensures { OnOk result (self.new ≡ self.old ++ more.now) }
     {
-        if more.list.len() > MOST - self.list.len() {
-            return Err(NoMemory);
-        }
         self.list.extend_from_slice(more.list.as_slice())?;
         Ok(())
     }
@@ -74,7 +65,7 @@ impl Code {
     #[tactic(auto, using(crate::proofs::RunnableCode::got_runnable))]
     pub fn get(&self, place: usize) -> Option<&Instruction>
         ensures is { option_copied result ≡ slice_get self.now place }
-        ensures fits { IfSome result (λ i. (numbers_fit i.now ≡ true) × (place < 2 ^ 62)) }
+        ensures fits { IfSome result (λ i. (numbers_fit i.now ≡ true) × (place < 2 ^ 63)) }
     {
         self.list.get(place)
     }

@@ -1,4 +1,6 @@
+pub mod Bounds
 pub mod Classes
+pub mod Tables
 pub mod Words
 pub mod ByNumbers
 pub mod Blocks

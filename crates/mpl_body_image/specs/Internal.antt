@@ -1,6 +1,9 @@
 -- What the private functions say of their results. The contract of `image_of` needs none of it.
+pub mod Bounds
 pub mod SeenLocals
 pub mod SeenClasses
+pub mod SeenNamed
+pub mod SeenOutline
 pub mod Outlines
 pub mod SeenParts
 pub mod Parts

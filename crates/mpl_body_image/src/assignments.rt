@@ -7,13 +7,14 @@ ghost use Rattle.mpl_mean.specs.Plain.Stmt.{assigns};
 ghost use Rattle.mpl_body_image.specs.Internal.SeenClasses.{class_seen};
 ghost use Rattle.mpl_body_image.specs.Internal.SeenScope.{env_seen, found_seen};
 
+use crate::class::Class;
 use crate::expressions::expression;
 use crate::flows::flow;
-use crate::outline::Class;
-use crate::scope::{Found, Scope, class_found, found_at, spot_of};
+use crate::found::Found;
+use crate::scope::{Scope, class_found, found_at, spot_of};
 use mpl_ast::expression::{Expression, Place, Target};
 use mpl_ast::flow::{Assignment, Flow};
-use mpl_body_code::{Code, Instruction, Spot};
+use mpl_body_code::{Code, Instruction};
 use mpl_value::NoMemory;
 
 pub fn assign<'o, 'a>(
@@ -81,23 +82,10 @@ fn element(code: &mut Code, line: u32, found: Option<Found>) -> Result<(), NoMem
     ensures { OnOk result (code.new ≡ code.old ++ element_code line (option_map found_seen found.entry)) }
 {
     match found {
-        Some(found) => put_element(code, line, spot_of(found)),
+        Some(found) => code.push(Instruction::PutElement(line, spot_of(found))),
         None => code.push(Instruction::Wait),
     }
 }
-
-/// No memory has an array of more words.
-fn put_element(code: &mut Code, line: u32, spot: Spot) -> Result<(), NoMemory>
-    ensures { OnOk result (code.new ≡ code.old ++ instruction.PutElement line spot ∷ []) }
-{
-    if spot.offset >= MOST || spot.words >= MOST {
-        return Err(NoMemory);
-    }
-    code.push(Instruction::PutElement(line, spot))
-}
-
-/// Half of the words that have an address.
-const MOST: usize = 9223372036854775808;
 
 pub fn create<'o, 'a>(
     scope: &Scope<'o, 'a>,
@@ -137,12 +125,7 @@ fn new(code: &mut Code, class: Option<Class>) -> Result<(), NoMemory>
     ensures { OnOk result (code.new ≡ code.old ++ new_code (option_map class_seen class.entry)) }
 {
     match class {
-        Some(class) => {
-            if class.number >= MOST {
-                return Err(NoMemory);
-            }
-            code.push(Instruction::New(class.number as i64))
-        }
+        Some(class) => code.push(Instruction::New(class.number as i64)),
         None => code.push(Instruction::Wait),
     }
 }

@@ -7,7 +7,8 @@ ghost use Rattle.mpl_mean.specs.Plain.Expr.{expr_of, expr_of_place, listed};
 ghost use Rattle.mpl_body_image.specs.Internal.RowCodes.{all_code};
 ghost use Rattle.mpl_body_image.specs.Internal.SeenScope.{env_seen, found_seen};
 
-use crate::scope::{Found, Scope, found_at, spot_of};
+use crate::found::Found;
+use crate::scope::{Scope, found_at, spot_of};
 use mpl_ast::expression::{
     Conjunction, Equality, Expression, Place, Primary, Relation, Sum, Target, Term, Unary,
 };

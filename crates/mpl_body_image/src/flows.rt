@@ -1,4 +1,4 @@
-ghost use Rattle.std.specs.Prelude.{◌≡◌, ◌++◌, map, option_map, Some, IfOk, OnOk};
+ghost use Rattle.std.specs.Prelude.{◌≡◌, ◌++◌, map, option_map, Some, OnOk};
 ghost use Rattle.mpl_plain.specs.Arity.{count_of};
 ghost use Rattle.mpl_body_code.specs.Codes.{expression_code, flow_code, passed_code, target_code, slot_of_name};
 ghost use Rattle.mpl_mean.specs.Plain.Scopes.{Slot, class_found};
@@ -9,10 +9,12 @@ ghost use Rattle.mpl_body_image.specs.Internal.ByNumber.{object_by, own_by, regu
 ghost use Rattle.mpl_body_image.specs.Internal.SeenClasses.{class_seen};
 ghost use Rattle.mpl_body_image.specs.Internal.SeenScope.{env_seen, found_seen};
 
+use crate::class::Class;
 use crate::expressions::{expression, read};
+use crate::found::Found;
 use crate::names::whole_name;
-use crate::outline::Class;
-use crate::scope::{Found, Scope, class_found, found_at, member_of, own_member};
+use crate::outline::member_id;
+use crate::scope::{Scope, class_found, found_at, own_member};
 use mpl_ast::expression::Expression;
 use mpl_ast::flow::{Call, Flow};
 use mpl_body_code::{Code, Instruction};
@@ -62,7 +64,7 @@ pub fn call<'o, 'a>(scope: &Scope<'o, 'a>, code: &mut Code, node: &'a Call) -> R
 {
     match node {
         Call::OnOwn(_, member, list) => {
-            let id = own_member(scope.object, member.text.as_slice())?;
+            let id = own_member(scope.object, member.text.as_slice());
             on_own(scope, code, id, list.as_slice())
         }
         Call::OnTarget(at, target, member, list) => {
@@ -83,7 +85,7 @@ pub fn call<'o, 'a>(scope: &Scope<'o, 'a>, code: &mut Code, node: &'a Call) -> R
 fn on_own<'o, 'a>(
     scope: &Scope<'o, 'a>,
     code: &mut Code,
-    id: Option<usize>,
+    id: Option<u32>,
     list: &'a [Flow],
 ) -> Result<(), NoMemory>
     ensures { OnOk result (code.new ≡ code.old ++ own_by id (count_of (listed (map expr_of_flow list.now))) (all_flows_code (env_seen scope.now) list.now)) }
@@ -92,7 +94,7 @@ fn on_own<'o, 'a>(
         Some(id) => {
             code.push(Instruction::Own)?;
             flows(scope, code, list)?;
-            code.push(Instruction::CallObject(small(id)?, count(list)))
+            code.push(Instruction::CallObject(id, count(list)))
         }
         None => code.push(Instruction::Wait),
     }
@@ -131,7 +133,7 @@ fn on_class<'o, 'a>(
 ) -> Result<(), NoMemory>
     ensures { OnOk result (code.new ≡ code.old ++ target_code line (Some (found_seen found.entry)) (Some (class_seen class.entry)) member.now (count_of (listed (map expr_of_flow list.now))) (all_flows_code (env_seen scope.now) list.now)) }
 {
-    let id = member_of(class, member)?;
+    let id = member_id(class, member);
     if class.is_regular {
         on_regular(scope, code, id, list)
     } else {
@@ -145,7 +147,7 @@ fn on_class<'o, 'a>(
 fn on_regular<'o, 'a>(
     scope: &Scope<'o, 'a>,
     code: &mut Code,
-    id: Option<usize>,
+    id: Option<u32>,
     list: &'a [Flow],
 ) -> Result<(), NoMemory>
     ensures { OnOk result (code.new ≡ code.old ++ regular_by id (count_of (listed (map expr_of_flow list.now))) (all_flows_code (env_seen scope.now) list.now)) }
@@ -153,7 +155,7 @@ fn on_regular<'o, 'a>(
     match id {
         Some(id) => {
             flows(scope, code, list)?;
-            code.push(Instruction::CallRegular(id, count(list)))
+            code.push(Instruction::CallRegular(id as usize, count(list)))
         }
         None => code.push(Instruction::Wait),
     }
@@ -163,7 +165,7 @@ fn on_regular<'o, 'a>(
 fn on_object<'o, 'a>(
     scope: &Scope<'o, 'a>,
     code: &mut Code,
-    id: Option<usize>,
+    id: Option<u32>,
     list: &'a [Flow],
 ) -> Result<(), NoMemory>
     ensures { OnOk result (code.new ≡ code.old ++ object_by id (count_of (listed (map expr_of_flow list.now))) (all_flows_code (env_seen scope.now) list.now)) }
@@ -171,7 +173,7 @@ fn on_object<'o, 'a>(
     match id {
         Some(id) => {
             flows(scope, code, list)?;
-            code.push(Instruction::CallObject(small(id)?, count(list)))
+            code.push(Instruction::CallObject(id, count(list)))
         }
         None => code.push(Instruction::Wait),
     }
@@ -193,15 +195,4 @@ fn count(list: &[Flow]) -> usize
     ensures { result ≡ count_of (listed (map expr_of_flow list.now)) }
 {
     list.len()
-}
-
-/// The number of a member. No memory has more of them.
-fn small(id: usize) -> Result<u32, NoMemory>
-    ensures { IfOk result (λ small. small ≡ id) }
-{
-    if id < 4294967296 {
-        Ok(id as u32)
-    } else {
-        Err(NoMemory)
-    }
 }

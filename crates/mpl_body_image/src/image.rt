@@ -10,17 +10,20 @@ ghost use Rattle.mpl_mean.specs.Plain.Scopes.{formal_shape};
 ghost use Rattle.mpl_body_code.specs.SeenImage.{image_seen};
 ghost use Rattle.mpl_body_image.specs.Laid.{class_entries, classes_code, function_entries, functions_code, laid, main_code, main_entry, member_entries, members_code};
 ghost use Rattle.mpl_body_image.specs.Internal.Bodies.{Sees, env_with, is_main, statements_in};
+ghost use Rattle.mpl_body_image.specs.Internal.Bounds.{StateFits};
 ghost use Rattle.mpl_body_image.specs.Internal.SeenClasses.{class_seen};
 
+use crate::class::Class;
 use crate::layout::parts_of_items;
 use crate::locals::{Locals, Shape};
-use crate::outline::{Class, Outline, is_same};
+use crate::outline::{Outline, declarations_of, is_same};
 use crate::scope::{Object, Scope, is_bool};
 use crate::statements::body;
 use mpl_ast::class::{Formal, Formals, Item, ResultType};
 use mpl_ast::program::Declaration;
 use mpl_ast::statement::Statement;
 use mpl_body_code::{Code, Finish, FunctionCode, Image, MemberCode};
+use mpl_mean::Typed;
 use mpl_value::NoMemory;
 use std::alloc::Global;
 
@@ -31,11 +34,11 @@ pub struct BodyCodes {
     pub main: usize,
 }
 
-pub fn image_of(alloc: Global, declarations: &[Declaration]) -> Result<BodyCodes, NoMemory>
-    ensures image { IfOk result (λ codes. image_seen codes.image ≡ laid declarations.now) }
-    ensures main { IfOk result (λ codes. codes.main ≡ main_entry declarations.now) }
+pub fn image_of(alloc: Global, typed: &Typed) -> Result<BodyCodes, NoMemory>
+    ensures image { IfOk result (λ codes. image_seen codes.image ≡ laid typed.now.declarations) }
+    ensures main { IfOk result (λ codes. codes.main ≡ main_entry typed.now.declarations) }
 {
-    let outline = Outline::of(alloc, declarations)?;
+    let outline = Outline::of(alloc, declarations_of(typed))?;
     let mut code = Code::new(alloc);
     let functions = add_functions(alloc, &outline, &mut code)?;
     let members = add_classes(alloc, &outline, &mut code)?;
@@ -172,6 +175,7 @@ fn add_class<'o, 'a>(
     members: &mut Vec<MemberCode>,
     class: Class<'a>,
 ) -> Result<(), NoMemory>
+    requires { StateFits outline.now (class_seen class) }
     ensures code { OnOk result (code.new ≡ code.old ++ members_code outline.now (class_seen class.entry) (class_seen class.entry).members) }
     ensures entries { OnOk result (members.new.items ≡ members.old.items ++ member_entries outline.now (class_seen class.entry) (length code.old) (class_seen class.entry).members) }
 {

@@ -1,131 +1,114 @@
-ghost use Rattle.std.specs.Prelude.{◌≡◌, ◌+◌, ℕ, List, [], ◌∷◌, ◌++◌, map, option_map, IfOk};
+ghost use Rattle.std.specs.Prelude.{◌≡◌, ◌≤◌, ◌<◌, ◌+◌, ◌^◌, ℕ, List, ◌∷◌, ◌++◌, map, option_map, IfOk};
 ghost use Rattle.mpl_mean.specs.Meaning.Layout as layout;
-ghost use Rattle.mpl_mean.specs.Meaning.Layout.{dimension_of, part_named, parts_from, parts_of, parts_of_names, parts_of_type, state_of, words_of, words_of_fields, words_of_parts, words_of_word};
+ghost use Rattle.mpl_mean.specs.Meaning.Layout.{dimension_of, meant, meant_by, natural, part_named, parts_from, parts_of, parts_of_type, state_of, words_of, words_of_fields, words_of_one, words_of_word};
 ghost use Rattle.mpl_ast.specs.declared.class.Field.{Field};
 ghost use Rattle.mpl_ast.specs.declared.class.FieldName.{FieldName};
 ghost use Rattle.mpl_ast.specs.declared.class.Item.{Item};
+ghost use Rattle.mpl_body_image.specs.Internal.Bounds.{words_in, words_of_item, words_within};
 ghost use Rattle.mpl_body_image.specs.Internal.Parts.{parts_with, words_of_field};
 ghost use Rattle.mpl_body_image.specs.Internal.SeenParts.{part_seen};
 
+use crate::named::Named;
 use crate::outline::{Outline, is_same};
+use crate::part::Part;
 use mpl_ast::class::{Field, FieldName, Item};
 use mpl_ast::statement::{Dimension, TypeName};
 use mpl_value::NoMemory;
 use std::alloc::Global;
 
-/// A part of a struct or of a state, by its words there.
-#[derive(Clone, Copy)]
-pub struct Part<'a> {
-    pub name: &'a [u8],
-    pub type_name: &'a TypeName,
-    pub dimension: Option<usize>,
-    pub offset: usize,
-    pub words: usize,
-}
-
 // ---- words
 
-pub fn dimension_of(dimension: Option<Dimension>) -> Option<usize>
-    ensures { result ≡ dimension_of dimension }
+/// How many elements an array has.
+fn elements(dimension: Dimension) -> usize
+    ensures is { result ≡ natural dimension.number.value }
+    ensures few { result < 2 ^ 63 }
 {
-    match dimension {
-        Some(dimension) => {
-            let value = dimension.number.value;
-            if value < 0 {
-                Some(0)
-            } else {
-                Some(value as usize)
-            }
-        }
-        None => None,
-    }
+    let value = dimension.number.value;
+    if value < 0 { 0 } else { value as usize }
 }
 
-fn words_of_word(dimension: Option<usize>) -> usize
-    ensures { result ≡ words_of_word dimension }
+fn words_of_word(dimension: Option<Dimension>) -> usize
+    ensures { result ≡ words_of_word (dimension_of dimension) }
 {
     match dimension {
-        Some(dimension) => dimension,
+        Some(dimension) => elements(dimension),
         None => 1,
-    }
-}
-
-/// More words than there are addresses have no memory.
-pub fn sum(a: usize, b: usize) -> Result<usize, NoMemory>
-    ensures { IfOk result (λ sum. sum ≡ a + b) }
-{
-    match a.checked_add(b) {
-        Some(sum) => Ok(sum),
-        None => Err(NoMemory),
     }
 }
 
 /// The words of a variable of a type.
-pub fn words_of(
-    outline: &Outline,
-    type_name: &TypeName,
-    dimension: Option<usize>,
-) -> Result<usize, NoMemory>
-    ensures { IfOk result (λ words. words ≡ words_of outline.now type_name.now dimension) }
+pub fn words_of<'a>(
+    outline: &Outline<'a>,
+    type_name: &'a TypeName,
+    dimension: Option<Dimension>,
+) -> usize
+    ensures is { result ≡ words_of outline.now type_name.now (dimension_of dimension) }
+    ensures few { result < 2 ^ 63 }
+{
+    match dimension {
+        Some(dimension) => elements(dimension),
+        None => words_of_one(outline, type_name),
+    }
+}
+
+/// The words of one value of a type.
+fn words_of_one<'a>(outline: &Outline<'a>, type_name: &'a TypeName) -> usize
+    ensures is { result ≡ words_of_one (meant outline.now type_name.now) }
+    ensures few { result ≤ 256 }
 {
     match type_name {
-        TypeName::Int(_) => Ok(words_of_word(dimension)),
-        TypeName::Bool(_) => Ok(words_of_word(dimension)),
-        TypeName::Named(_, name) => match dimension {
-            Some(dimension) => Ok(dimension),
-            None => words_of_named(outline, name.text.as_slice()),
-        },
+        TypeName::Int(_) => 1,
+        TypeName::Bool(_) => 1,
+        TypeName::Named(_, name) => words_of_named(outline, name.text.as_slice()),
     }
 }
 
-fn words_of_named(outline: &Outline, name: &[u8]) -> Result<usize, NoMemory>
-    ensures { IfOk result (λ words. words ≡ layout.words_of_named (layout.struct_named name.now outline.now) (layout.class_named name.now (layout.classes_of outline.now))) }
+fn words_of_named<'a>(outline: &Outline<'a>, name: &'a [u8]) -> usize
+    ensures is { result ≡ words_of_one (meant_by name.now outline.now) }
+    ensures few { result ≤ 256 }
 {
-    match outline.fields_of(name) {
-        Some(fields) => words_of_fields(fields),
-        None => Ok(words_of_class(outline, name)),
-    }
-}
-
-fn words_of_class(outline: &Outline, name: &[u8]) -> usize
-    ensures { result ≡ layout.words_of_class (layout.class_named name.now (layout.classes_of outline.now)) }
-{
-    match outline.class_named(name) {
-        Some(class) => { if class.is_regular { 0 } else { 1 } }
-        None => 1,
+    match outline.named(name) {
+        Named::Struct(fields) => words_of_fields(fields),
+        Named::Regular(_) => 0,
+        Named::Persistent(_) => 1,
+        Named::Nothing => 1,
     }
 }
 
 #[tactic(auto, using(crate::proofs::Words::one_field))]
-fn words_of_fields(fields: &[Field]) -> Result<usize, NoMemory>
-    ensures { IfOk result (λ words. words ≡ words_of_fields fields.now) }
+fn words_of_fields(fields: &[Field]) -> usize
+    requires { words_of_fields fields.now ≤ 256 }
+    ensures { result ≡ words_of_fields fields.now }
 {
     let mut words = 0;
     for field in fields {
-        words = sum(words, words_of_field(field.names.as_slice())?)?;
+        words += words_of_field(field.names.as_slice());
     }
-    Ok(words)
+    words
 }
 
 #[tactic(auto, using(crate::proofs::Words::one_name))]
-fn words_of_field(names: &[FieldName]) -> Result<usize, NoMemory>
-    ensures { IfOk result (λ words. words ≡ words_of_field names.now) }
+fn words_of_field(names: &[FieldName]) -> usize
+    requires { words_of_field names.now ≤ 256 }
+    ensures { result ≡ words_of_field names.now }
 {
     let mut words = 0;
     for name in names {
-        words = sum(words, words_of_word(dimension_of(name.dimension)))?;
+        words += words_of_word(name.dimension);
     }
-    Ok(words)
+    words
 }
 
 // ---- parts
 
 /// The parts of a struct.
+#[tactic(auto, using(crate::proofs::Words::field_within))]
 pub fn parts_of_fields<'a>(
     alloc: Global,
     outline: &Outline<'a>,
     fields: &'a [Field],
 ) -> Result<Vec<Part<'a>>, NoMemory>
+    requires { words_within outline.now fields.now ≤ 256 }
     ensures { IfOk result (λ parts. map part_seen parts.items ≡ parts_of outline.now fields.now) }
 {
     let mut parts = Vec::new(alloc);
@@ -137,11 +120,13 @@ pub fn parts_of_fields<'a>(
 }
 
 /// The parts of the state among the items of a class.
+#[tactic(auto, using(crate::proofs::Words::item_within))]
 pub fn parts_of_items<'a>(
     alloc: Global,
     outline: &Outline<'a>,
     items: &'a [Item],
 ) -> Result<Vec<Part<'a>>, NoMemory>
+    requires { words_within outline.now (state_of items.now) ≤ 256 }
     ensures { IfOk result (λ parts. map part_seen parts.items ≡ parts_of outline.now (state_of items.now)) }
 {
     let mut parts = Vec::new(alloc);
@@ -158,7 +143,9 @@ fn add_item<'a>(
     offset: usize,
     item: &'a Item,
 ) -> Result<usize, NoMemory>
-    ensures { IfOk result (λ next. (others : List Item) → map part_seen parts.new.items ++ parts_from outline.now next (state_of others) ≡ map part_seen parts.old.items ++ parts_from outline.now offset (state_of (item.now ∷ others))) }
+    requires { offset + words_of_item outline.now item.now ≤ 256 }
+    ensures parts { IfOk result (λ next. (others : List Item) → map part_seen parts.new.items ++ parts_from outline.now next (state_of others) ≡ map part_seen parts.old.items ++ parts_from outline.now offset (state_of (item.now ∷ others))) }
+    ensures next { IfOk result (λ next. next ≡ offset + words_of_item outline.now item.now) }
 {
     match item {
         Item::OfField(_, field) => add_field(outline, parts, offset, field),
@@ -171,14 +158,16 @@ fn add_item<'a>(
 }
 
 /// The parts of one field, from an offset on. Answers where the next begin.
-#[tactic(auto, using(crate::proofs::Words::no_name_left, crate::proofs::Words::field_added))]
+#[tactic(auto, using(crate::proofs::Words::no_name_left, crate::proofs::Words::field_added, crate::proofs::Words::name_within))]
 fn add_field<'a>(
     outline: &Outline<'a>,
     parts: &mut Vec<Part<'a>>,
     offset: usize,
     field: &'a Field,
 ) -> Result<usize, NoMemory>
-    ensures { IfOk result (λ next. (others : List Field) → map part_seen parts.new.items ++ parts_from outline.now next others ≡ map part_seen parts.old.items ++ parts_from outline.now offset (field.now ∷ others)) }
+    requires { offset + words_in outline.now field.now.type_name field.now.names ≤ 256 }
+    ensures parts { IfOk result (λ next. (others : List Field) → map part_seen parts.new.items ++ parts_from outline.now next others ≡ map part_seen parts.old.items ++ parts_from outline.now offset (field.now ∷ others)) }
+    ensures next { IfOk result (λ next. next ≡ offset + words_in outline.now field.now.type_name field.now.names) }
 {
     let mut next = offset;
     for name in field.names.as_slice() {
@@ -196,19 +185,19 @@ fn add_name<'a>(
     type_name: &'a TypeName,
     name: &'a FieldName,
 ) -> Result<usize, NoMemory>
-    ensures { IfOk result (λ next. (others : List FieldName) (fields : List Field) → parts_with outline.now type_name.now (map part_seen parts.new.items) next others fields ≡ parts_with outline.now type_name.now (map part_seen parts.old.items) offset (name.now ∷ others) fields) }
+    requires { offset + words_of outline.now type_name.now (dimension_of name.now.dimension) ≤ 256 }
+    ensures parts { IfOk result (λ next. (others : List FieldName) (fields : List Field) → parts_with outline.now type_name.now (map part_seen parts.new.items) next others fields ≡ parts_with outline.now type_name.now (map part_seen parts.old.items) offset (name.now ∷ others) fields) }
+    ensures next { IfOk result (λ next. next ≡ offset + words_of outline.now type_name.now (dimension_of name.now.dimension)) }
 {
-    let dimension = dimension_of(name.dimension);
-    let words = words_of(outline, type_name, dimension)?;
-    let next = sum(offset, words)?;
+    let words = words_of(outline, type_name, name.dimension);
     parts.push(Part {
         name: name.name.text.as_slice(),
         type_name,
-        dimension,
+        dimension: name.dimension,
         offset,
         words,
     })?;
-    Ok(next)
+    Ok(offset + words)
 }
 
 /// The part of a name.
@@ -227,16 +216,28 @@ pub fn part_named<'a>(parts: &[Part<'a>], name: &[u8]) -> Option<Part<'a>>
 pub fn parts_of_type<'a>(
     alloc: Global,
     outline: &Outline<'a>,
-    type_name: &TypeName,
+    type_name: &'a TypeName,
 ) -> Result<Vec<Part<'a>>, NoMemory>
     ensures { IfOk result (λ parts. map part_seen parts.items ≡ parts_of_type outline.now type_name.now) }
 {
     match type_name {
         TypeName::Int(_) => Ok(Vec::new(alloc)),
         TypeName::Bool(_) => Ok(Vec::new(alloc)),
-        TypeName::Named(_, name) => match outline.fields_of(name.text.as_slice()) {
-            Some(fields) => parts_of_fields(alloc, outline, fields),
-            None => Ok(Vec::new(alloc)),
-        },
+        TypeName::Named(_, name) => parts_of_named(alloc, outline, name.text.as_slice()),
+    }
+}
+
+fn parts_of_named<'a>(
+    alloc: Global,
+    outline: &Outline<'a>,
+    name: &'a [u8],
+) -> Result<Vec<Part<'a>>, NoMemory>
+    ensures { IfOk result (λ parts. map part_seen parts.items ≡ layout.parts_of_meant outline.now (meant_by name.now outline.now)) }
+{
+    match outline.named(name) {
+        Named::Struct(fields) => parts_of_fields(alloc, outline, fields),
+        Named::Regular(_) => Ok(Vec::new(alloc)),
+        Named::Persistent(_) => Ok(Vec::new(alloc)),
+        Named::Nothing => Ok(Vec::new(alloc)),
     }
 }

@@ -3,7 +3,7 @@ ghost use Rattle.std.specs.Str.{bytes_eq};
 ghost use Rattle.mpl_mean.specs.Plain.Scopes.{slot_named};
 ghost use Rattle.mpl_body_image.specs.Internal.SeenLocals.{numbered, shape_seen, slot_seen};
 
-use mpl_ast::statement::TypeName;
+use mpl_ast::statement::{Dimension, TypeName};
 use mpl_value::NoMemory;
 use std::alloc::Global;
 use std::collections::HashMap;
@@ -14,7 +14,7 @@ use std::marker::Model;
 pub struct Shape<'a> {
     pub name: &'a [u8],
     pub type_name: &'a TypeName,
-    pub dimension: Option<usize>,
+    pub dimension: Option<Dimension>,
 }
 
 /// A variable of the scope, and the number of the one of its name that it hides.

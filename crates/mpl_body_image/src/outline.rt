@@ -1,45 +1,47 @@
-ghost use Rattle.std.specs.Prelude.{◌≡◌, ℕ, suc, ◌+◌, ◌≤◌, List, ◌∷◌, ◌++◌, length, map, option_map, IfOk};
+ghost use Rattle.std.specs.Prelude.{◌≡◌, ℕ, ◌+◌, ◌≤◌, ◌<◌, ◌^◌, List, ◌∷◌, ◌++◌, length, map, option_map, IfOk};
 ghost use Rattle.mpl_ast.specs.declared.class.Item.{Item};
 ghost use Rattle.std.specs.Str.{bytes_eq};
 ghost use Rattle.mpl_ast.specs.declared.program.Declaration.{Declaration};
+ghost use Rattle.mpl_mean.specs.Laws.Sizes.{Every};
 ghost use Rattle.mpl_mean.specs.Meaning.Layout as layout;
-ghost use Rattle.mpl_mean.specs.Meaning.Layout.{class_named, classes_from, classes_of, Member, member_named, members_from, struct_named};
+ghost use Rattle.mpl_mean.specs.Meaning.Layout.{class_named, classes_from, classes_of, meant_by, Member, member_named, members_from};
 ghost use Rattle.mpl_body_code.specs.Codes.{number_of_function};
-ghost use Rattle.mpl_body_image.specs.Internal.Outlines.{numbered_on, or_else};
+ghost use Rattle.mpl_scope.specs.First.{at, or_else};
+ghost use Rattle.mpl_body_image.specs.Internal.Bounds.{Bounded, HasFewMembers, StateFits};
+ghost use Rattle.mpl_body_image.specs.Internal.Outlines.{numbered_on};
 ghost use Rattle.mpl_body_image.specs.Internal.SeenClasses.{class_seen};
+ghost use Rattle.mpl_body_image.specs.Internal.SeenNamed.{NamedFits, named_seen};
 
-use mpl_ast::class::{Field, Item, Kind};
+use crate::class::Class;
+use crate::named::{Named, types_of};
+use mpl_ast::class::{Item, Kind};
 use mpl_ast::program::Declaration;
+use mpl_mean::Typed;
+use mpl_scope::first_named::FirstNamed;
 use mpl_value::NoMemory;
 use std::alloc::Global;
 use std::marker::Model;
 
-#[derive(Clone, Copy)]
-pub struct Class<'a> {
-    pub number: usize,
-    /// The number of its first member.
-    pub first: usize,
-    pub name: &'a [u8],
-    pub is_regular: bool,
-    pub items: &'a [Item],
-}
-
-/// The declarations of a program, and its classes.
+/// The declarations of a program, and its types, classes and plain functions by their names.
 #[derive(Drop)]
 pub struct Outline<'a> {
     declarations: &'a [Declaration],
+    types: FirstNamed<'a, Named<'a>>,
+    /// All of them, in their order.
     classes: Vec<Class<'a>>,
+    classes_named: FirstNamed<'a, Class<'a>>,
+    /// By their numbers.
+    functions: FirstNamed<'a, usize>,
 }
 
 impl<'a> Model for Outline<'a> {
-    ghost use Rattle.std.specs.Prelude.{◌≡◌, List, map};
+    ghost use Rattle.std.specs.Prelude.{List};
     ghost use Rattle.std.specs.Coded.{codes};
     ghost use Rattle.mpl_ast.specs.contracts.expression.Expression as expression;
     ghost use Rattle.mpl_ast.specs.contracts.flow.Flow as flow;
     ghost use Rattle.mpl_ast.specs.contracts.statement.Statement as statement;
     ghost use Rattle.mpl_ast.specs.declared.program.Declaration.{Declaration};
-    ghost use Rattle.mpl_mean.specs.Meaning.Layout.{classes_of};
-    ghost use Rattle.mpl_body_image.specs.Internal.SeenClasses.{class_seen};
+    ghost use Rattle.mpl_body_image.specs.Internal.SeenOutline.{Stands};
 
     ghost Value = { List Declaration };
 
@@ -47,21 +49,24 @@ impl<'a> Model for Outline<'a> {
 
     ghost view = { λ o. o.declarations.now };
 
-    ghost invariant = { λ o. map class_seen o.classes.items ≡ classes_of o.declarations.now };
+    ghost invariant = { λ o. Stands o.declarations.now o.types o.classes.items o.classes_named o.functions };
 }
 
 impl<'a> Outline<'a> {
     pub fn of(alloc: Global, declarations: &'a [Declaration]) -> Result<Outline<'a>, NoMemory>
+        requires { Bounded declarations.now }
         ensures { IfOk result (λ outline. outline ≡ declarations.now) }
     {
-        let mut classes = Vec::new(alloc);
-        let mut first = 0;
-        for declaration in declarations {
-            first = add_class(&mut classes, first, declaration)?;
-        }
+        let types = types_of(alloc, declarations)?;
+        let classes = classes_of(alloc, declarations)?;
+        let classes_named = by_name(alloc, classes.as_slice())?;
+        let functions = functions_of(alloc, declarations)?;
         Ok(Outline {
             declarations,
+            types,
             classes,
+            classes_named,
+            functions,
         })
     }
 
@@ -71,41 +76,77 @@ impl<'a> Outline<'a> {
         self.declarations
     }
 
+    /// What the name of a type stands for.
+    #[tactic(auto, using(crate::proofs::Tables::named_fits))]
+    pub fn named(&self, name: &'a [u8]) -> Named<'a>
+        ensures is { named_seen name.now result ≡ meant_by name.now self.now }
+        ensures few { NamedFits self.now result }
+    {
+        match self.types.find(name) {
+            Some(named) => *named,
+            None => Named::Nothing,
+        }
+    }
+
     pub fn classes(&self) -> &[Class<'a>]
-        ensures { map class_seen result.now ≡ classes_of self.now }
+        ensures are { map class_seen result.now ≡ classes_of self.now }
+        ensures fit { Every (StateFits self.now) (map class_seen result.now) }
     {
         self.classes.as_slice()
     }
 
-    pub fn class_named(&self, name: &[u8]) -> Option<Class<'a>>
+    pub fn class_named(&self, name: &'a [u8]) -> Option<Class<'a>>
         ensures { option_map class_seen result ≡ class_named name.now (classes_of self.now) }
     {
-        class_among(self.classes.as_slice(), name)
-    }
-
-    /// The fields of a struct.
-    pub fn fields_of(&self, name: &[u8]) -> Option<&'a [Field]>
-        ensures { option_map (λ fields. fields.now) result ≡ struct_named name.now self.now }
-    {
-        struct_among(self.declarations, name)
+        self.classes_named.find(name).copied()
     }
 
     /// The number of a plain function.
-    pub fn function_numbered(&self, name: &[u8]) -> Option<usize>
+    pub fn function_numbered(&self, name: &'a [u8]) -> Option<usize>
         ensures { result ≡ number_of_function 0 name.now self.now }
     {
-        function_among(self.declarations, name)
+        self.functions.find(name).copied()
     }
+}
+
+/// The declarations of an accepted program.
+pub fn declarations_of(typed: &Typed) -> &[Declaration]
+    ensures are { result.now ≡ typed.now.declarations }
+    ensures bounded { Bounded result.now }
+{
+    let program = typed.program();
+    program.declarations.as_slice()
+}
+
+// ---- classes
+
+fn classes_of<'a>(
+    alloc: Global,
+    declarations: &'a [Declaration],
+) -> Result<Vec<Class<'a>>, NoMemory>
+    requires few { length declarations.now ≤ 4096 }
+    requires members { Every HasFewMembers declarations.now }
+    ensures { IfOk result (λ classes. map class_seen classes.items ≡ classes_of declarations.now) }
+{
+    let mut classes = Vec::new(alloc);
+    let mut first = 0;
+    for declaration in declarations {
+        first = add_class(&mut classes, first, declaration)?;
+    }
+    Ok(classes)
 }
 
 /// One more declaration, which may be a class. Answers the number of the next member.
 fn add_class<'a>(
     classes: &mut Vec<Class<'a>>,
-    first: usize,
+    first: u32,
     declaration: &'a Declaration,
-) -> Result<usize, NoMemory>
-    ensures { IfOk result (λ next. (others : List Declaration) →
+) -> Result<u32, NoMemory>
+    requires room { first + 64 ≤ 262144 }
+    requires members { HasFewMembers declaration.now }
+    ensures classes { IfOk result (λ next. (others : List Declaration) →
         map class_seen classes.new.items ++ classes_from (length classes.new.items) next others ≡ map class_seen classes.old.items ++ classes_from (length classes.old.items) first (declaration.now ∷ others)) }
+    ensures next { IfOk result (λ next. next ≤ first + 64) }
 {
     match declaration {
         Declaration::Class(_, _, kind, name, items) => {
@@ -127,19 +168,16 @@ fn add_class<'a>(
 }
 
 #[tactic(auto, using(crate::proofs::Classes::class_added, crate::proofs::Classes::as_many_members))]
-fn push_class<'a>(classes: &mut Vec<Class<'a>>, class: Class<'a>) -> Result<usize, NoMemory>
+fn push_class<'a>(classes: &mut Vec<Class<'a>>, class: Class<'a>) -> Result<u32, NoMemory>
     requires { class.number ≡ length classes.old.items }
-    ensures { IfOk result (λ next. (others : List Declaration) →
+    ensures classes { IfOk result (λ next. (others : List Declaration) →
         map class_seen classes.new.items ++ classes_from (length classes.new.items) next others
         ≡ map class_seen classes.old.items ++ class_seen class.entry ∷ classes_from (length classes.old.items + 1) (class.entry.first + length (members_from class.entry.first class.entry.items.now)) others) }
+    ensures next { IfOk result (λ next. next ≡ class.entry.first + length (members_from 0 class.entry.items.now)) }
 {
-    match class.first.checked_add(count_members(class.items)) {
-        Some(next) => {
-            classes.push(class)?;
-            Ok(next)
-        }
-        None => Err(NoMemory),
-    }
+    let next = class.first + count_members(class.items);
+    classes.push(class)?;
+    Ok(next)
 }
 
 fn is_regular(kind: &Kind) -> bool
@@ -151,7 +189,8 @@ fn is_regular(kind: &Kind) -> bool
     }
 }
 
-fn count_members(items: &[Item]) -> usize
+fn count_members(items: &[Item]) -> u32
+    requires { length (members_from 0 items.now) ≤ 262144 }
     ensures { result ≡ length (members_from 0 items.now) }
 {
     let mut count = 0;
@@ -163,9 +202,8 @@ fn count_members(items: &[Item]) -> usize
 
 /// One for a member, and none for anything else.
 #[tactic(auto, using(crate::proofs::Classes::as_many_members))]
-fn counted(item: &Item) -> usize
-    ensures one { result ≤ 1 }
-    ensures more { (others : List Item) → result + length (members_from 0 others) ≡ length (members_from 0 (item.now ∷ others)) }
+fn counted(item: &Item) -> u32
+    ensures { (others : List Item) → result + length (members_from 0 others) ≡ length (members_from 0 (item.now ∷ others)) }
 {
     match item {
         Item::Member(..) => 1,
@@ -177,86 +215,81 @@ fn counted(item: &Item) -> usize
     }
 }
 
-/// The class of a name, among some of them.
-fn class_among<'a>(classes: &[Class<'a>], name: &[u8]) -> Option<Class<'a>>
-    ensures { option_map class_seen result ≡ class_named name.now (map class_seen classes.now) }
+/// The first class of each name.
+fn by_name<'a>(alloc: Global, classes: &[Class<'a>]) -> Result<FirstNamed<'a, Class<'a>>, NoMemory>
+    ensures { IfOk result (λ named. (name : List ℕ) → option_map class_seen (at named name) ≡ class_named name (map class_seen classes.now)) }
 {
+    let mut named = FirstNamed::new(alloc);
     for class in classes {
-        if is_same(class.name, name) {
-            return Some(*class);
-        }
+        named.add(class.name, *class)?;
     }
-    None
+    Ok(named)
 }
 
-fn struct_among<'a>(declarations: &'a [Declaration], name: &[u8]) -> Option<&'a [Field]>
-    ensures { option_map (λ fields. fields.now) result ≡ struct_named name.now declarations.now }
-{
-    for declaration in declarations {
-        if let Some(fields) = fields_if_named(declaration, name) {
-            return Some(fields);
-        }
-    }
-    None
-}
+// ---- functions
 
-fn fields_if_named<'a>(declaration: &'a Declaration, name: &[u8]) -> Option<&'a [Field]>
-    ensures { (others : List Declaration) → struct_named name.now (declaration.now ∷ others) ≡ or_else (option_map (λ fields. fields.now) result) (struct_named name.now others) }
+/// The number of the first plain function of each name.
+fn functions_of<'a>(
+    alloc: Global,
+    declarations: &'a [Declaration],
+) -> Result<FirstNamed<'a, usize>, NoMemory>
+    ensures { IfOk result (λ functions. (name : List ℕ) → at functions name ≡ number_of_function 0 name declarations.now) }
 {
-    match declaration {
-        Declaration::Struct(_, _, found, fields) => {
-            if is_same(found.text.as_slice(), name) {
-                Some(fields.as_slice())
-            } else {
-                None
-            }
-        }
-        Declaration::Class(..) => None,
-        Declaration::Function(..) => None,
-    }
-}
-
-fn function_among(declarations: &[Declaration], name: &[u8]) -> Option<usize>
-    ensures { result ≡ number_of_function 0 name.now declarations.now }
-{
+    let mut functions = FirstNamed::new(alloc);
     let mut number = 0;
     for declaration in declarations {
-        match is_function(declaration, name) {
-            Some(true) => return Some(number),
-            Some(false) => number += 1,
+        number = add_function(&mut functions, number, declaration)?;
+    }
+    Ok(functions)
+}
+
+/// One more declaration, which may be a function. Answers the number of the next one.
+#[tactic(auto, using(crate::proofs::Tables::chosen_number))]
+fn add_function<'a>(
+    functions: &mut FirstNamed<'a, usize>,
+    number: usize,
+    declaration: &'a Declaration,
+) -> Result<usize, NoMemory>
+    requires { number < 2 ^ 63 }
+    ensures found { IfOk result (λ next. (q : List ℕ) (others : List Declaration) →
+        or_else (at functions.new q) (number_of_function next q others) ≡ or_else (at functions.old q) (number_of_function number q (declaration.now ∷ others))) }
+    ensures next { IfOk result (λ next. next ≤ number + 1) }
+{
+    match declaration {
+        Declaration::Function(_, _, name, _, _) => {
+            functions.add(name.text.as_slice(), number)?;
+            Ok(number + 1)
+        }
+        Declaration::Struct(..) => Ok(number),
+        Declaration::Class(..) => Ok(number),
+    }
+}
+
+// ---- members
+
+/// The number of the member of a name.
+#[tactic(auto, using(crate::proofs::Classes::few_ids))]
+pub fn member_id(class: Class, name: &[u8]) -> Option<u32>
+    ensures { result ≡ option_map (λ (m : Member). m.id) (member_named name.now (class_seen class.entry).members) }
+{
+    match id_among(class, name) {
+        Some(id) => Some(id as u32),
+        None => None,
+    }
+}
+
+fn id_among(class: Class, name: &[u8]) -> Option<usize>
+    ensures { result ≡ option_map (λ (m : Member). m.id) (member_named name.now (class_seen class.entry).members) }
+{
+    let mut id = class.first as usize;
+    for item in class.items {
+        match is_named_member(item, name) {
+            Some(true) => return Some(id),
+            Some(false) => id += 1,
             None => {}
         }
     }
     None
-}
-
-/// Whether it is a function, and then whether it has this name.
-fn is_function(declaration: &Declaration, name: &[u8]) -> Option<bool>
-    ensures { (number : ℕ) (others : List Declaration) → number_of_function number name.now (declaration.now ∷ others) ≡ numbered_on result number (number_of_function (suc number) name.now others) (number_of_function number name.now others) }
-{
-    match declaration {
-        Declaration::Function(_, _, found, _, _) => Some(is_same(found.text.as_slice(), name)),
-        Declaration::Struct(..) => None,
-        Declaration::Class(..) => None,
-    }
-}
-
-/// The member of a name, among the items of its class, of which the first member has this number.
-pub fn member_id(items: &[Item], first: usize, name: &[u8]) -> Result<Option<usize>, NoMemory>
-    ensures { IfOk result (λ id. id ≡ option_map (λ (m : Member). m.id) (member_named name.now (members_from first items.now))) }
-{
-    let mut id = first;
-    for item in items {
-        match is_named_member(item, name) {
-            Some(true) => return Ok(Some(id)),
-            Some(false) => match id.checked_add(1) {
-                Some(next) => id = next,
-                None => return Err(NoMemory),
-            },
-            None => {}
-        }
-    }
-    Ok(None)
 }
 
 /// Whether it is a member, and then whether it has this name.

@@ -1,4 +1,4 @@
-ghost use Rattle.std.specs.Prelude.{◌≡◌, ℕ, Some, option_map, IfOk};
+ghost use Rattle.std.specs.Prelude.{◌≡◌, ◌≤◌, ◌+◌, Some, option_map, IfOk, IfSome};
 ghost use Rattle.mpl_mean.specs.Meaning.Layout.{Member, member_named, part_named};
 ghost use Rattle.mpl_mean.specs.Meaning.PlaceMeaning.{is_bool};
 ghost use Rattle.mpl_mean.specs.Plain.Scopes.{class_found, found_at, found_field, found_name, found_part, slot_named};
@@ -8,9 +8,12 @@ ghost use Rattle.mpl_body_image.specs.Internal.SeenLocals.{slot_seen};
 ghost use Rattle.mpl_body_image.specs.Internal.SeenParts.{part_seen};
 ghost use Rattle.mpl_body_image.specs.Internal.SeenScope.{env_seen, found_seen, members_seen, parts_seen};
 
-use crate::layout::{Part, part_named, parts_of_type, sum, words_of};
+use crate::class::Class;
+use crate::found::Found;
+use crate::layout::{part_named, parts_of_type, words_of};
 use crate::locals::{Locals, Slot};
-use crate::outline::{Class, Outline, member_id};
+use crate::outline::{Outline, member_id};
+use crate::part::Part;
 use mpl_ast::expression::Target;
 use mpl_ast::statement::TypeName;
 use mpl_body_code::{Base, Spot};
@@ -34,16 +37,6 @@ pub struct Scope<'o, 'a> {
     pub locals: Locals<'a>,
 }
 
-/// What a place stands for.
-#[derive(Clone, Copy)]
-pub struct Found<'a> {
-    pub slot: Option<Slot<'a>>,
-    pub offset: usize,
-    pub words: usize,
-    pub type_name: &'a TypeName,
-    pub is_whole: bool,
-}
-
 // ---- places
 
 fn own_part<'o, 'a>(object: Option<&'o Object<'a>>, name: &[u8]) -> Option<Part<'a>>
@@ -59,35 +52,37 @@ fn found_part<'a>(
     slot: Option<Slot<'a>>,
     offset: usize,
     part: Option<Part<'a>>,
-) -> Result<Option<Found<'a>>, NoMemory>
-    ensures { IfOk result (λ found. option_map found_seen found ≡ found_part (option_map slot_seen slot.entry) offset (option_map part_seen part.entry)) }
+) -> Option<Found<'a>>
+    requires { offset ≤ 256 }
+    ensures is { option_map found_seen result ≡ found_part (option_map slot_seen slot.entry) offset (option_map part_seen part.entry) }
+    ensures near { IfSome result (λ found. found.offset ≤ offset + 256) }
 {
     match part {
-        Some(part) => Ok(Some(Found {
+        Some(part) => Some(Found {
             slot,
-            offset: sum(offset, part.offset)?,
+            offset: offset + part.offset,
             words: part.words,
             type_name: part.type_name,
             is_whole: false,
-        })),
-        None => Ok(None),
+        }),
+        None => None,
     }
 }
 
-fn found_name<'o, 'a>(scope: &Scope<'o, 'a>, name: &'a [u8]) -> Result<Option<Found<'a>>, NoMemory>
-    ensures { IfOk result (λ found. option_map found_seen found ≡ found_name (env_seen scope.now) (slot_named name.now (env_seen scope.now).scope) name.now) }
+fn found_name<'o, 'a>(scope: &Scope<'o, 'a>, name: &'a [u8]) -> Option<Found<'a>>
+    ensures is { option_map found_seen result ≡ found_name (env_seen scope.now) (slot_named name.now (env_seen scope.now).scope) name.now }
+    ensures near { IfSome result (λ found. found.offset ≤ 256) }
 {
     match scope.locals.find(name) {
         Some(slot) => {
             let shape = slot.shape;
-            let words = words_of(scope.outline, shape.type_name, shape.dimension)?;
-            Ok(Some(Found {
+            Some(Found {
                 slot: Some(slot),
                 offset: 0,
-                words,
+                words: words_of(scope.outline, shape.type_name, shape.dimension),
                 type_name: shape.type_name,
                 is_whole: true,
-            }))
+            })
         }
         None => found_part(None, 0, own_part(scope.object, name)),
     }
@@ -98,10 +93,12 @@ fn found_field<'o, 'a>(
     name: &[u8],
     found: Found<'a>,
 ) -> Result<Option<Found<'a>>, NoMemory>
+    requires { found.offset ≤ 256 }
     ensures { IfOk result (λ field. option_map found_seen field ≡ found_field (env_seen scope.now) name.now (Some (found_seen found.entry))) }
 {
     let parts = parts_of_type(scope.alloc, scope.outline, found.type_name)?;
-    found_part(found.slot, found.offset, part_named(parts.as_slice(), name))
+    let part = part_named(parts.as_slice(), name);
+    Ok(found_part(found.slot, found.offset, part))
 }
 
 pub fn found_at<'o, 'a>(
@@ -111,8 +108,8 @@ pub fn found_at<'o, 'a>(
     ensures { IfOk result (λ found. option_map found_seen found ≡ found_at (env_seen scope.now) target.now) }
 {
     match target {
-        Target::Variable(_, variable) => found_name(scope, variable.text.as_slice()),
-        Target::Field(_, variable, field) => match found_name(scope, variable.text.as_slice())? {
+        Target::Variable(_, variable) => Ok(found_name(scope, variable.text.as_slice())),
+        Target::Field(_, variable, field) => match found_name(scope, variable.text.as_slice()) {
             Some(found) => found_field(scope, field.text.as_slice(), found),
             None => Ok(None),
         },
@@ -160,22 +157,12 @@ pub fn is_bool(type_name: &TypeName) -> bool
     }
 }
 
-/// The number of a member of a class.
-pub fn member_of(class: Class, name: &[u8]) -> Result<Option<usize>, NoMemory>
-    ensures { IfOk result (λ id. id ≡ option_map (λ (m : Member). m.id) (member_named name.now (class_seen class.entry).members)) }
-{
-    member_id(class.items, class.first, name)
-}
-
 /// The number of a member that `self` has.
-pub fn own_member<'o, 'a>(
-    object: Option<&'o Object<'a>>,
-    name: &[u8],
-) -> Result<Option<usize>, NoMemory>
-    ensures { IfOk result (λ id. id ≡ option_map (λ (m : Member). m.id) (member_named name.now (members_seen object.entry))) }
+pub fn own_member<'o, 'a>(object: Option<&'o Object<'a>>, name: &[u8]) -> Option<u32>
+    ensures { result ≡ option_map (λ (m : Member). m.id) (member_named name.now (members_seen object.entry)) }
 {
     match object {
-        Some(object) => member_of(object.class, name),
-        None => Ok(None),
+        Some(object) => member_id(object.class, name),
+        None => None,
     }
 }

@@ -10,7 +10,7 @@ ghost use Rattle.mpl_body_image.specs.Internal.Writing.{Wrote, WroteAll, WroteCo
 use crate::assignments::{assign, create, give_back, print};
 use crate::expressions::expression;
 use crate::flows::{call, flow};
-use crate::layout::{dimension_of, words_of};
+use crate::layout::words_of;
 use crate::locals::Shape;
 use crate::scope::Scope;
 use mpl_ast::expression::Expression;
@@ -69,7 +69,7 @@ fn statement<'o, 'a>(
                     let mut other = Code::new(scope.alloc);
                     statement(scope, &mut other, else_part.get())?;
                     leave(scope, &mut other, count)?;
-                    either(&*scope, code, test, &inner, &other)
+                    either(&*scope, code, test, &mut inner, &other)
                 }
                 None => when(&*scope, code, test, &inner),
             }
@@ -78,7 +78,7 @@ fn statement<'o, 'a>(
             let mut inner = Code::new(scope.alloc);
             statement(scope, &mut inner, body.get())?;
             leave(scope, &mut inner, count)?;
-            loop_with(&*scope, code, test, &inner)
+            loop_with(&*scope, code, test, &mut inner)
         }
         Statement::For(_, head, body) => {
             let head = head.get();
@@ -88,7 +88,7 @@ fn statement<'o, 'a>(
             statement(scope, &mut inner, body.get())?;
             leave(scope, &mut inner, within)?;
             step(&*scope, &mut inner, head)?;
-            loop_with(&*scope, code, &head.test, &inner)?;
+            loop_with(&*scope, code, &head.test, &mut inner)?;
             leave(scope, code, count)
         }
         Statement::Print(_, list) => print(&*scope, code, list.as_slice()),
@@ -160,15 +160,15 @@ fn either<'o, 'a>(
     scope: &Scope<'o, 'a>,
     code: &mut Code,
     test: &'a Expression,
-    inner: &Code,
+    inner: &mut Code,
     other: &Code,
 ) -> Result<(), NoMemory>
-    ensures { OnOk result (code.new ≡ code.old ++ (expression_code (env_seen scope.now) (expr_of test.now) ++ instruction.Unless (suc (length inner.now)) ∷ (inner.now ++ instruction.Skip (length other.now) ∷ other.now))) }
+    ensures { OnOk result (code.new ≡ code.old ++ (expression_code (env_seen scope.now) (expr_of test.now) ++ instruction.Unless (suc (length inner.old)) ∷ (inner.old ++ instruction.Skip (length other.now) ∷ other.now))) }
 {
+    inner.push(Instruction::Skip(other.len()))?;
     expression(scope, code, test)?;
-    code.push(Instruction::Unless(inner.len() + 1))?;
+    code.push(Instruction::Unless(inner.len()))?;
     code.append(inner)?;
-    code.push(Instruction::Skip(other.len()))?;
     code.append(other)
 }
 
@@ -176,9 +176,9 @@ fn loop_with<'o, 'a>(
     scope: &Scope<'o, 'a>,
     code: &mut Code,
     test: &'a Expression,
-    inner: &Code,
+    inner: &mut Code,
 ) -> Result<(), NoMemory>
-    ensures { OnOk result (code.new ≡ code.old ++ loop_code (expression_code (env_seen scope.now) (expr_of test.now)) inner.now) }
+    ensures { OnOk result (code.new ≡ code.old ++ loop_code (expression_code (env_seen scope.now) (expr_of test.now)) inner.old) }
 {
     let mut first = Code::new(scope.alloc);
     expression(scope, &mut first, test)?;
@@ -210,14 +210,14 @@ fn step<'o, 'a>(scope: &Scope<'o, 'a>, code: &mut Code, head: &'a ForHead) -> Re
     }
 }
 
-fn write_loop(code: &mut Code, test: &Code, inner: &Code) -> Result<(), NoMemory>
-    ensures { OnOk result (code.new ≡ code.old ++ loop_code test.now inner.now) }
+fn write_loop(code: &mut Code, test: &Code, inner: &mut Code) -> Result<(), NoMemory>
+    ensures { OnOk result (code.new ≡ code.old ++ loop_code test.now inner.old) }
 {
+    inner.push(Instruction::Again(test.len() + (inner.len() + 1)))?;
     code.push(Instruction::Turn)?;
     code.append(test)?;
-    code.push(Instruction::Unless(inner.len() + 1))?;
-    code.append(inner)?;
-    code.push(Instruction::Again(test.len() + (inner.len() + 1)))
+    code.push(Instruction::Unless(inner.len()))?;
+    code.append(inner)
 }
 
 fn declare<'o, 'a>(
@@ -243,14 +243,13 @@ fn declare_one<'o, 'a>(
 {
     match declarator {
         Declarator::Plain(_, name, dimension) => {
-            let dimension = dimension_of(*dimension);
-            let words = words_of(scope.outline, type_name, dimension)?;
+            let words = words_of(scope.outline, type_name, *dimension);
             code.push(Instruction::Declare(words))?;
             let name = name.text.as_slice();
             scope.locals.declare(Shape {
                 name,
                 type_name,
-                dimension,
+                dimension: *dimension,
             })
         }
         Declarator::Initialized(_, name, value) => {

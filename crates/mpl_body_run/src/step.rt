@@ -22,7 +22,7 @@ impl Machine {
     /// One instruction of a frame.
     #[inline(always)]
     pub fn perform(&mut self, setting: &Setting, instruction: &Instruction) -> Result<(), Leaves>
-        requires within { self.old.frame.place < 2 ^ 62 }
+        requires within { self.old.frame.place < 2 ^ 63 }
         requires fits { numbers_fit instruction.now ≡ true }
         requires turns { self.old.turns ≤ setting.now.budget }
         requires budget { setting.now.budget ≤ greatest_budget }

@@ -1,7 +1,8 @@
-ghost use Rattle.std.specs.Prelude.{◌≡◌, ◌≤◌, ◌+◌, ◌<◌, ◌^◌, ℕ, Some, slice_get, IfOk};
+ghost use Rattle.std.specs.Prelude.{◌≡◌, ◌≤◌, ◌+◌, ◌<◌, ◌^◌, ℕ, true, Some, slice_get, IfOk};
 ghost use Rattle.mpl_mean.specs.Laws.Sizes.{StartFits};
 ghost use Rattle.mpl_mean.specs.Limits.{greatest_budget};
 ghost use Rattle.mpl_mean.specs.Meaning.BodyMeaning.{yield_of};
+ghost use Rattle.mpl_mean.specs.TypeRules.Rules.{is_typed};
 ghost use Rattle.mpl_value.specs.declared.body.BodyEnd.TheVariants as ends;
 ghost use Rattle.mpl_body_code.specs.Images as images;
 ghost use Rattle.mpl_body_code.specs.Images.{main_machine, starts};
@@ -46,8 +47,7 @@ fn walk_body(
     requires budget { budget ≤ greatest_budget }
     ensures { IfOk result (λ y. y ≡ yield_of typed.now start.now replies.now budget) }
 {
-    let program = typed.program();
-    let codes = image_of(alloc, program.declarations.as_slice())?;
+    let codes = image_of(alloc, typed)?;
     let setting = Setting {
         alloc,
         image: &codes.image,
@@ -55,6 +55,13 @@ fn walk_body(
         budget,
     };
     walk_in(&setting, typed, start, codes.main)
+}
+
+/// No type rule fails in it.
+fn keeps_rules(typed: &Typed)
+    ensures { is_typed typed.now ≡ true }
+{
+    let _program = typed.program();
 }
 
 /// `main`, or the member of the start.
@@ -70,10 +77,10 @@ fn walk_in(
     requires budget { setting.now.budget ≤ greatest_budget }
     ensures { IfOk result (λ y. y ≡ yield_of typed.now start.now setting.now.replies.now setting.now.budget) }
 {
-    let program = typed.program();
+    keeps_rules(typed);
     match start.member {
         None => walk_main(setting, start, main),
-        Some(id) => match formal_words(setting.alloc, program.declarations.as_slice(), id)? {
+        Some(id) => match formal_words(setting.alloc, typed, id)? {
             Some(counts) => match member_code(setting.image, id) {
                 Some(code) => walk_member(setting, start, code, counts.as_slice()),
                 None => unreachable!(),

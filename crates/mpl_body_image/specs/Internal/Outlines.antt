@@ -1,15 +1,16 @@
 -- Words on what is found among declarations and items.
-use Rattle.std.specs.Prelude.{ℕ, Bool, true, false, Option, Some, None}
-
-abbrev pub or_else : {A : Type 0} → Option A → Option A → Option A
-or_else None other = other
-or_else (Some a) other = Some a
+use Rattle.std.specs.Prelude.{ℕ, suc, Bool, true, false, Option, Some, None}
 
 -- it is found here, or by a higher number, or by this one
 abbrev pub numbered_on : Option Bool → ℕ → Option ℕ → Option ℕ → Option ℕ
 numbered_on None number higher same = same
 numbered_on (Some true) number higher same = Some number
 numbered_on (Some false) number higher same = higher
+
+-- so many members, with this one if it is one
+abbrev pub members_on : Option Bool → ℕ → ℕ
+members_on None others = others
+members_on (Some test) others = suc others
 
 -- it is found here by this test, or further on; or there is nothing here
 abbrev pub found_on : {A : Type 0} → Option A → Bool → Option A → Option A → Option A

@@ -1,6 +1,6 @@
 -- What the classes of an outline stand for.
 use Rattle.mpl_mean.specs.Meaning.Layout as layout
-use Rattle.mpl_body_image.specs.declared.outline.Class.{Class}
+use Rattle.mpl_body_image.specs.declared.class.Class.{Class}
 
 abbrev pub class_seen : Class → layout.Class
 class_seen c = record {

@@ -6,7 +6,7 @@ use Rattle.mpl_mean.specs.Plain.Scopes as code
 use Rattle.mpl_body_image.specs.Internal.SeenClasses.{class_seen}
 use Rattle.mpl_body_image.specs.Internal.SeenLocals.{slot_seen}
 use Rattle.mpl_body_image.specs.Internal.SeenParts.{part_seen}
-use Rattle.mpl_body_image.specs.declared.scope.Found.{Found}
+use Rattle.mpl_body_image.specs.declared.found.Found.{Found}
 use Rattle.mpl_body_image.specs.declared.scope.Object.{Object}
 use Rattle.mpl_body_image.specs.declared.scope.Scope.{Scope}
 

@@ -14,25 +14,23 @@ words_in found = option_map (λ (words : Vec ℕ Global). words.items) found
 pub returns-in-None : goal.returns-in-None
 returns-in-None c =
     let p = c.args.typed.now in
-    let typed : is_typed p ≡ true = subst (λ (p : Program). is_typed p ≡ true) c.program-program.ensures.same c.program-program.ensures.accepted.typed in
+    let typed : is_typed p ≡ true = c.keeps_rules.ensures in
     main_means (setting_seen c.args.setting.now) p c.args.start.now c.walk_main.result c.args.main c.requires.image typed c.in-None.is c.requires.main c.walk_main.ensures
 
 pub returns-in-Some-member_code : goal.returns-in-Some-member_code
 returns-in-Some-member_code c =
     let p = c.args.typed.now in
     let id = c.in-Some.id in
-    let typed : is_typed p ≡ true = subst (λ (p : Program). is_typed p ≡ true) c.program-program.ensures.same c.program-program.ensures.accepted.typed in
-    let declared : c.as_slice.result.now ≡ p.declarations = c.as_slice.ensures ∙ ap (λ (p : Program). p.declarations) c.program-program.ensures.same in
+    let typed : is_typed p ≡ true = c.keeps_rules.ensures in
     let counted =
-    ap (λ counts. Some counts) c.as_slice-in-Some-member_code.ensures.value ∙ ap words_in (sym c.in-Some-2.is) ∙ c.in_ok-counts-in-Some.ensures
-    ∙ ap (λ (ds : List Declaration). option_map (λ (found : Class × Member). map (words_of_formal ds) found.1.formals) (member_of_id ds id)) declared in
+    ap (λ counts. Some counts) c.as_slice-in-Some-member_code.ensures.value ∙ ap words_in (sym c.in-Some-2.is) ∙ c.in_ok-counts-in-Some.ensures in
     member_means (setting_seen c.args.setting.now) p c.args.start.now c.walk_member.result id c.in-Some-member_code.code c.as_slice-in-Some-member_code.result.now c.requires.image typed
     c.in-Some.is (known_of p c.args.start.now id c.in-Some.is c.requires.fits) counted (sym c.member_code.ensures ∙ c.in-Some-member_code.is) c.walk_member.ensures
 
 pub unreachable-requires : goal.unreachable-requires
 unreachable-requires c =
     let p = c.args.typed.now in
-    let typed : is_typed p ≡ true = subst (λ (p : Program). is_typed p ≡ true) c.program-program.ensures.same c.program-program.ensures.accepted.typed in
+    let typed : is_typed p ≡ true = c.keeps_rules.ensures in
     has_member (setting_seen c.args.setting.now) p c.args.start.now c.in-Some.id c.requires.image typed (known_of p c.args.start.now c.in-Some.id c.in-Some.is c.requires.fits)
     (sym c.member_code.ensures ∙ c.in-None-member_code.is)
 
@@ -40,7 +38,5 @@ pub unreachable-requires-in-None-2 : goal.unreachable-requires-in-None-2
 unreachable-requires-in-None-2 c =
     let p = c.args.typed.now in
     let id = c.in-Some.id in
-    let declared : c.as_slice.result.now ≡ p.declarations = c.as_slice.ensures ∙ ap (λ (p : Program). p.declarations) c.program-program.ensures.same in
     has_counts p c.args.start.now id (known_of p c.args.start.now id c.in-Some.is c.requires.fits)
-    (ap words_in (sym c.in-None-2.is) ∙ c.in_ok-counts-in-Some.ensures
-    ∙ ap (λ (ds : List Declaration). option_map (λ (found : Class × Member). map (words_of_formal ds) found.1.formals) (member_of_id ds id)) declared)
+    (ap words_in (sym c.in-None-2.is) ∙ c.in_ok-counts-in-Some.ensures)
