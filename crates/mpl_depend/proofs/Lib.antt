@@ -1,0 +1,13 @@
+pub mod Carrying
+pub mod Walks
+pub mod Loops
+pub mod FlagSets
+pub mod Rows
+pub mod BodyMarks
+pub mod Variables
+pub mod Seen
+pub mod Blocks
+pub mod Members
+pub mod Marking
+pub mod Found
+pub mod Widths
