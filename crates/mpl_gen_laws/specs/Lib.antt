@@ -1,0 +1,5 @@
+pub mod SameChoices
+pub mod PrintedLines
+pub mod Marks
+pub mod MarkedSum
+pub mod SafeFrames

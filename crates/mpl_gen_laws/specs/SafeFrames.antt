@@ -1,0 +1,35 @@
+-- Frames alone that stray nowhere, whatever fits they are told: so many steps on, through all their halts.
+use Rattle.std.specs.Prelude.{ℕ, zero, suc, ◌≡◌, ◌+◌, ℤ, Some}
+use Rattle.mpl_value.specs.declared.body.Arg.{Arg}
+use Rattle.mpl_value.specs.declared.known.Known.{Known}
+use Rattle.mpl_value.specs.CallAnswers.{arg_of_reply}
+use Rattle.mdf_code.specs.declared.raw.RawImage.{RawImage}
+use Rattle.mdf_code.specs.Alone.{Held, Words, Pending, framed}
+use Rattle.mdf_code.specs.Frames.{Frame, Next, Goes, Spends, Stops, Calls, Creates, Ends, Needs, Replies, Strays, Traps}
+use Rattle.mdf_code.specs.Sizes.{ArgFits}
+use Rattle.mdf_code.specs.Steps.{step}
+use Rattle.mdf_code.specs.Told.{learns}
+use Rattle.mdf_code.specs.Yields.{answered, named, words_of_result}
+
+-- what holds of a frame, the calls that it made, and what is known of their results
+abbrev pub Holds : Type 1
+Holds = ℕ → (ℕ → Arg) → Frame Held → Type 0
+
+-- Behind a step: a result has the size that is said of its number, and what is learnt of it fits.
+abbrev pub SafeNext : RawImage → (ℕ → ℕ) → Holds → ℕ → (ℕ → Arg) → Next Held → Type 0
+SafeNext image sizes again calls knows (Goes f) = again calls knows f
+SafeNext image sizes again calls knows (Spends f) = again calls knows f
+SafeNext image sizes again calls knows (Stops (Calls member object arguments) f) = sizes (calls + 1) ≡ words_of_result image member → again (calls + 1) knows (answered image member (Pending (calls + 1)) f)
+SafeNext image sizes again calls knows (Stops (Needs (Words words)) f) = Unit {0}
+SafeNext image sizes again calls knows (Stops (Needs (Pending result)) f) =
+    (known : Known) → ArgFits (sizes result) (arg_of_reply (Some known)) → again calls (learns result (arg_of_reply (Some known)) knows) f
+SafeNext image sizes again calls knows (Stops (Replies value) f) = again calls knows f
+SafeNext image sizes again calls knows (Stops (Creates class) f) = (object : ℤ) → again calls knows (named object f)
+SafeNext image sizes again calls knows (Stops (Ends line) f) = Unit {0}
+SafeNext image sizes again calls knows (Stops (Traps trap) f) = Unit {0}
+SafeNext image sizes again calls knows (Stops Strays f) = ⊥
+
+-- for so many steps
+abbrev pub Safe : RawImage → ℤ → (ℕ → ℕ) → ℕ → Holds
+Safe image object sizes zero calls knows f = Unit {0}
+Safe image object sizes (suc n) calls knows f = SafeNext image sizes (Safe image object sizes n) calls knows (step (framed knows) (record { image = image; object = object }) f)

@@ -1,0 +1,42 @@
+ghost use Rattle.std.specs.Prelude.{◌≡◌, ℕ, ℤ, Bool, true, List, Some, pos};
+ghost use Rattle.std.specs.FinMap.{empty};
+ghost use Rattle.std.specs.List.{AllZip};
+ghost use Rattle.mpl_ast.specs.declared.program.Program.{Program};
+ghost use Rattle.mpl_mean.specs.Accepted.{IsAcceptable};
+ghost use Rattle.mpl_mean.specs.Meaning.ExpressionMeaning.{value_of};
+ghost use Rattle.mpl_mean.specs.Meaning.DirectRun.{direct_run, main_start};
+ghost use Rattle.mpl_mean.specs.Meaning.Layout.{Class};
+ghost use Rattle.mpl_mean.specs.Pending.MayBePending.{MayBePending};
+ghost use Rattle.mpl_mean.specs.Text.Weight.{is_light};
+ghost use Rattle.mpl_mean.specs.TypeRules.Rules.{is_typed};
+ghost use Rattle.mdf_core.specs.Choices.{choices};
+ghost use Rattle.mdf_mean.specs.Guards.{choices_by, class_at};
+ghost use Rattle.mpl_gen_code.specs.ProgramImage.{image_of};
+ghost use Rattle.mdf_code.specs.Images.{is_image};
+ghost use Rattle.mdf_code.specs.Yields.{YieldsUnstrayed};
+ghost use Rattle.mpl_gen_laws.specs.PrintedLines.{LinesHaveValues};
+ghost use Rattle.mpl_gen_laws.specs.SameChoices.{SameChoice};
+
+/// In a program that is well typed and no token of which weighs too much a class accepts the same calls in the image and in the
+/// language. Where it has a `select`, its entries are those of the language, one beside the other: the same priority and
+/// member, and the code of the guard holds where the language says that the guard does, for each state and arguments that
+/// fit. It doesn't hold where the guard traps. A class without `select` has one entry of priority 0 for each member.
+pub fn guard_code_holds_as_the_language_says()
+    ensures { (p : Program) (marks : ℕ → Bool) → is_typed p ≡ true → is_light p ≡ true → (c : ℕ) (class : Class) → class_at p.declarations (pos c) ≡ Some class →
+        AllZip (SameChoice p class) (choices (image_of p marks) c) (choices_by value_of p.declarations (pos c)) }
+{}
+
+/// The image of a well typed program is an image, whatever uses are marked, where each line that is printed has a value:
+/// variables, states and results have few words, members few formals, each way round a loop passes a test, and guards compute
+/// on words and jump forward. In an accepted program each line has a value, since the grammar asks for one.
+pub fn images_of_programs_are_images()
+    ensures typed { (p : Program) (marks : ℕ → Bool) → is_typed p ≡ true → LinesHaveValues p → is_image (image_of p marks) ≡ true }
+    ensures accepted { (p : Program) (marks : ℕ → Bool) → IsAcceptable p → is_image (image_of p marks) ≡ true }
+{}
+
+/// In a well typed program where each use is marked that may find a pending or a trapped result, the code of `main` yields
+/// what the program does directly, with each input and any number of turns.
+pub fn main_runs_as_its_code()
+    ensures { (p : Program) (marks : ℕ → Bool) → is_typed p ≡ true → ((node : ℕ) → MayBePending p node → marks node ≡ true) → (input : List ℤ) (turns : ℕ) →
+        YieldsUnstrayed (image_of p marks) (main_start input) empty turns (direct_run p input turns) }
+{}
