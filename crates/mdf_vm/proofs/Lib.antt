@@ -1,9 +1,13 @@
 pub mod Reversed
+pub mod Rooms
+pub mod Laid
+pub mod Written
 pub mod Operands
 pub mod Storing
 pub mod Nearness
 pub mod Going
 pub mod Executing
+pub mod Quickly
 pub mod Ran
 pub mod Poured
 pub mod Filled

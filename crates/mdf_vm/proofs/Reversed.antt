@@ -2,6 +2,7 @@
 use Rattle.std.proofs.Common.{◌≡◌, ◌≤◌, ◌<◌, ◌+◌, ◌-◌, ℕ, List, [], ◌∷◌, ◌++◌, set, get_or, None, length, take, drop, true, Some, Option, refl, ap, sym, ◌∙◌, arith, cond, subst}
 use Rattle.std.proofs.lemmas.Bool.{le-leb}
 use Rattle.std.proofs.lemmas.List.{take-append-drop, reverse-append, reverse-reverse, length-reverse, length-drop, drop_at, drop_all, drop-drop, append-nil, take_all, take_at, take_rest, take_more, take_more_set, set_split}
+use Rattle.std.proofs.lemmas.Option.{get_or_from_slice_get}
 use Rattle.std.specs.Prelude.{reverse, nat_le, zero, suc, slice_get, IsNone, MatchOption, ◌↔◌}
 use Rattle.mdf_code.specs.Stacks.{popped, popped_all}
 
@@ -103,3 +104,14 @@ top_is items now place old seen last read =
 pub top_changed : {A : Type 0} (items now : List A) (place : ℕ) (old new : A) → reverse items ≡ now → length items ≡ place + 1 → reverse (set items place new) ≡ new ∷ drop 1 now
 top_changed items now place old new seen last =
     changed_turned items place new last ∙ ap (λ l. new ∷ l) (ap (drop 1) (sym (turned items place old last) ∙ seen))
+
+missing : {A : Type 0} (xs : List A) (n : ℕ) → n < length xs → slice_get xs n ≡ None → ⊥
+missing [] n h none = omega (arith, h)
+missing (x ∷ xs) zero h none = cc none
+missing (x ∷ xs) (suc n) h none = missing xs n (omega (arith, h)) none
+
+pub seen_below : {A : Type 0} (items now : List A) (count place : ℕ) (o : Option A) → reverse items ≡ now → count + 1 ≤ length items → place ≡ length items - (count + 1) → o ≡ slice_get items place →
+    MatchOption o (popped (drop count now) ≡ None) (λ item. popped (drop count now) ≡ Some (record { items = item; below = drop (count + 1) now }))
+seen_below items now count place None seen h is read = absurd (missing items place (omega (arith, h, is)) (sym read))
+seen_below items now count place (Some item) seen h is read =
+    popped_below items now count place item seen h is (sym (get_or_from_slice_get items place item item (sym read)))

@@ -1,5 +1,7 @@
 pub mod Kinds
+pub mod Slots
 pub mod Moves
+pub mod Tries
 pub mod Operations
 pub mod Sights
 pub mod Handing

@@ -97,6 +97,7 @@ impl Running {
     }
 }
 
+#[inline(always)]
 pub fn word_of(truth: bool) -> i64
     ensures { result ≡ bool_word truth }
 {

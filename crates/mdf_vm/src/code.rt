@@ -15,6 +15,7 @@ pub enum CodeKind {
 }
 
 /// The code in an image.
+#[inline(always)]
 pub fn code_at(image: &RawImage, code: CodeKind) -> Option<&RawCode>
     ensures { option_copied result ≡ parts.code_of image.now (places.code_of code) }
 {
@@ -25,6 +26,7 @@ pub fn code_at(image: &RawImage, code: CodeKind) -> Option<&RawCode>
     }
 }
 
+#[inline(always)]
 fn function_body(image: &RawImage, function: u32) -> Option<&RawCode>
     ensures { option_copied result ≡ parts.code_of image.now (frames.InFunction function) }
 {
@@ -32,6 +34,7 @@ fn function_body(image: &RawImage, function: u32) -> Option<&RawCode>
     Some(&function.body)
 }
 
+#[inline(always)]
 fn member_body(image: &RawImage, member: u32) -> Option<&RawCode>
     ensures { option_copied result ≡ parts.code_of image.now (frames.InMember member) }
 {
@@ -39,7 +42,18 @@ fn member_body(image: &RawImage, member: u32) -> Option<&RawCode>
     Some(&member.body)
 }
 
+/// The instructions of a code.
+pub fn text_of(image: &RawImage, code: CodeKind) -> &[Instr]
+    ensures { result.now ≡ parts.text_at image.now (places.code_of code) }
+{
+    match code_at(image, code) {
+        None => &[],
+        Some(body) => body.code.as_slice(),
+    }
+}
+
 /// An instruction of a code.
+#[inline(always)]
 pub fn instruction_at(image: &RawImage, code: CodeKind, place: usize) -> Option<&Instr>
     ensures value { option_copied result ≡ slice_get (parts.text_at image.now (places.code_of code)) place }
     ensures before { IfSome result (λ _. place < 2 ^ 63) }
@@ -54,6 +68,7 @@ pub fn size_of(image: &RawImage, code: CodeKind, variable: u32) -> Option<u32>
     code_at(image, code)?.vars.get(variable as usize)
 }
 
+#[inline(always)]
 pub fn is_place(image: &RawImage, code: CodeKind, place: u32) -> bool
     ensures { result ≡ parts.is_place image.now (places.code_of code) place }
 {

@@ -67,32 +67,36 @@ impl Running {
         let Some(held) = self.variables.get(variable) else {
             return Ok(STRAY);
         };
-        let value = held.copy()?;
+        let value = held.copy(self.alloc)?;
         self.flows.push(Flow::new(value, size))?;
         self.place = next;
         Ok(Move::Goes)
     }
 
     /// A flow value into a variable.
-    pub fn set_variable(&mut self, next: usize, image: &RawImage, variable: u32) -> Move
+    pub fn set_variable(
+        &mut self,
+        next: usize,
+        image: &RawImage,
+        variable: u32,
+    ) -> Result<Move, NoMemory>
         requires { next ≡ self.old.place + 1 }
-        ensures { (knows : ℕ → Arg) (object : ℤ) → Did knows (record { image = image.now; object = object }) (instr.SetVariable variable) self.old result self.new }
+        ensures ok { IfOk result (λ move. (knows : ℕ → Arg) (object : ℤ) → Did knows (record { image = image.now; object = object }) (instr.SetVariable variable) self.old move self.new) }
+        ensures err { OnErr result (frame_of self.new ≡ frame_of self.old) }
     {
         let Some(top) = self.flows.top() else {
-            return STRAY;
+            return Ok(STRAY);
         };
         let Some(size) = size_of(image, self.code, variable) else {
-            return STRAY;
+            return Ok(STRAY);
         };
         if top.size() != size || !self.variables.has(variable) {
-            return STRAY;
+            return Ok(STRAY);
         }
-        let Some(flow) = self.flows.pop() else {
-            unreachable!()
-        };
-        self.variables.put(variable, flow.into_value());
+        self.variables.put(variable, top.value())?;
+        self.flows.shorten(1);
         self.place = next;
-        Move::Goes
+        Ok(Move::Goes)
     }
 
     pub fn drop_flow(&mut self, next: usize) -> Move

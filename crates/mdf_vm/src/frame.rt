@@ -24,6 +24,7 @@ use crate::running::{Flow, Input, Running};
 use crate::stack::Stack;
 use crate::stop::Stop;
 use crate::variables::Variables;
+use crate::word_stack::WordStack;
 use mdf_code::{Image, RawImage};
 use mpl_value::{BodyStart, Bytes, Known, MemberId, NoMemory, Trap, Words};
 use std::alloc::Global;
@@ -67,7 +68,7 @@ impl Frame {
         let running = Running {
             code,
             place: 0,
-            words: Stack::new(alloc),
+            words: WordStack::new(alloc),
             flows: Stack::new(alloc),
             variables,
             callers: Stack::new(alloc),
@@ -101,7 +102,7 @@ impl Frame {
         let running = Running {
             code,
             place: 0,
-            words: Stack::new(alloc),
+            words: WordStack::new(alloc),
             flows: Stack::new(alloc),
             variables,
             callers: Stack::new(alloc),

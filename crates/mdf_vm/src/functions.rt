@@ -17,6 +17,7 @@ use crate::moves::{Move, STRAY};
 use crate::running::{Caller, Running};
 use crate::stack::Stack;
 use crate::variables::Variables;
+use crate::word_stack::WordStack;
 use mdf_code::RawImage;
 use mpl_value::NoMemory;
 use std::mem;
@@ -51,7 +52,7 @@ impl Running {
         let caller = Caller {
             code: self.code,
             place: next,
-            words: mem::replace(&mut self.words, Stack::new(self.alloc)),
+            words: mem::replace(&mut self.words, WordStack::new(self.alloc)),
             flows: mem::replace(&mut self.flows, Stack::new(self.alloc)),
             variables: mem::replace(&mut self.variables, variables),
         };
@@ -97,7 +98,7 @@ impl Running {
 }
 
 /// As many words from the top as these sizes have together.
-fn last_of<'a>(words: &'a Stack<i64>, sizes: &[u32]) -> Option<&'a [i64]>
+fn last_of<'a>(words: &'a WordStack, sizes: &[u32]) -> Option<&'a [i64]>
     ensures value { MatchOption result (popped_all (sum sizes.now) words.now ≡ None) (λ items. popped_all (sum sizes.now) words.now ≡ Some (record { items = items.now; below = drop (sum sizes.now) words.now })) }
     ensures all { IfSome result (λ items. length items.now ≡ sum sizes.now) }
     ensures there { IfSome result (λ _. sum sizes.now ≤ length words.now) }

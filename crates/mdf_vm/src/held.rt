@@ -1,11 +1,11 @@
-ghost use Rattle.std.specs.Prelude.{◌≡◌, ◌+◌, ◌≤◌, ℤ, List, length, IfOk, OnOk, OnErr, Some};
-ghost use Rattle.mpl_value.specs.Words.{with_words, zeros};
+ghost use Rattle.std.specs.Prelude.{◌≡◌, IfOk, Some};
+ghost use Rattle.mpl_value.specs.Words.{zeros};
 ghost use Rattle.mpl_value.specs.CallAnswers.{arg_of_reply};
 ghost use Rattle.std.specs.Option.{option_copied};
 ghost use Rattle.mdf_code.specs.Alone as alone;
 ghost use Rattle.mdf_code.specs.Stacks.{known_words_of};
 ghost use Rattle.mdf_vm.specs.FlowArgs.{flow_arg};
-ghost use Rattle.mdf_vm.specs.Internal.Pouring.{left_by, poured};
+ghost use Rattle.mdf_vm.specs.Internal.Kinds.{held_of};
 ghost use Rattle.mdf_vm.specs.Internal.Sights.{IsSight};
 ghost use Rattle.mdf_vm.specs.Results.{knows_of};
 
@@ -22,7 +22,7 @@ pub struct Held {
 }
 
 #[derive(Drop)]
-enum Kind {
+pub enum Kind {
     Words(Words),
     Pending(u32),
 }
@@ -62,6 +62,12 @@ impl Held {
         }
     }
 
+    pub fn kind(&self) -> &Kind
+        ensures { held_of result.now ≡ self.now }
+    {
+        &self.kind
+    }
+
     /// So many zeros.
     pub fn zeros(alloc: Global, count: u32) -> Result<Held, NoMemory>
         ensures { IfOk result (λ held. held ≡ alone.Words (zeros count)) }
@@ -79,7 +85,7 @@ impl Held {
     {
         match &self.kind {
             Kind::Words(words) => Some(words.as_slice()),
-            Kind::Pending(result) => known_words(results.get(*result)?),
+            Kind::Pending(result) => known_in(results, *result),
         }
     }
 
@@ -89,56 +95,6 @@ impl Held {
         match &self.kind {
             Kind::Words(_) => Sight::Known,
             Kind::Pending(result) => sight_of(*result, results.get(*result)),
-        }
-    }
-
-    /// Words in place of known ones. With an error it holds what it held.
-    pub fn write(&mut self, results: &Results, offset: usize, words: &[i64]) -> Result<(), NoMemory>
-        requires { (known : List ℤ) × (known_words_of (alone.seen_by (knows_of results.now) self.old) ≡ Some known) × (offset + length words.now ≤ length known) }
-        ensures ok { OnOk result ((known : List ℤ) → known_words_of (alone.seen_by (knows_of results.now) self.old) ≡ Some known → self.new ≡ alone.Words (with_words offset words.now known)) }
-        ensures err { OnErr result (self.new ≡ self.old) }
-    {
-        if let Kind::Words(held) = &mut self.kind {
-            held.write(offset, words);
-            return Ok(());
-        }
-        self.write_known(results, offset, words)
-    }
-
-    /// The same of the result of a call.
-    fn write_known(
-        &mut self,
-        results: &Results,
-        offset: usize,
-        words: &[i64],
-    ) -> Result<(), NoMemory>
-        requires { (known : List ℤ) × (known_words_of (alone.seen_by (knows_of results.now) self.old) ≡ Some known) × (offset + length words.now ≤ length known) }
-        ensures ok { OnOk result ((known : List ℤ) → known_words_of (alone.seen_by (knows_of results.now) self.old) ≡ Some known → self.new ≡ alone.Words (with_words offset words.now known)) }
-        ensures err { OnErr result (self.new ≡ self.old) }
-    {
-        match self.words(results) {
-            None => unreachable!(),
-            Some(known) => {
-                let mut copy = Words::from_slice(results.allocator(), known)?;
-                copy.write(offset, words);
-                *self = Held::of_words(copy);
-                Ok(())
-            }
-        }
-    }
-
-    /// As many words from the front as it has room for. What is left of them is answered.
-    pub fn pour<'a>(&mut self, words: &'a [i64]) -> &'a [i64]
-        ensures held { self.new ≡ poured self.old words.now }
-        ensures left { result.now ≡ left_by self.old words.now }
-    {
-        match &mut self.kind {
-            Kind::Pending(_) => words,
-            Kind::Words(held) => {
-                let (first, rest) = words.split_at(held.len().min(words.len()));
-                held.write(0, first);
-                rest
-            }
         }
     }
 
@@ -163,7 +119,7 @@ impl Held {
     }
 }
 
-fn sight_of(number: u32, known: Option<&Known>) -> Sight
+pub fn sight_of(number: u32, known: Option<&Known>) -> Sight
     ensures { IsSight (alone.Pending number) (arg_of_reply (option_copied known.entry)) result }
 {
     match known {
@@ -180,4 +136,12 @@ fn known_words(known: &Known) -> Option<&[i64]>
         Known::Value(words) => Some(words.as_slice()),
         Known::Trapped(_) => None,
     }
+}
+
+/// The words of a result, where they are known.
+#[inline(never)]
+pub fn known_in(results: &Results, number: u32) -> Option<&[i64]>
+    ensures { option_copied result ≡ known_words_of (knows_of results.now number) }
+{
+    known_words(results.get(number)?)
 }

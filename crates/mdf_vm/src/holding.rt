@@ -24,10 +24,11 @@ impl Running {
         let Some(size) = size_of(image, self.code, variable) else {
             return Ok(STRAY);
         };
-        let zeros = Held::zeros(self.alloc, size)?;
-        if !self.variables.set(variable, zeros) {
+        if !self.variables.has(variable) {
             return Ok(STRAY);
         }
+        let zeros = Held::zeros(self.alloc, size)?;
+        self.variables.put(variable, &zeros)?;
         self.place = next;
         Ok(Move::Goes)
     }
@@ -56,10 +57,11 @@ impl Running {
         let Some(held) = self.variables.get(source) else {
             return Ok(STRAY);
         };
-        let copy = held.copy()?;
-        if !self.variables.set(variable, copy) {
+        let copy = held.copy(self.alloc)?;
+        if !self.variables.has(variable) {
             return Ok(STRAY);
         }
+        self.variables.put(variable, &copy)?;
         self.place = next;
         Ok(Move::Goes)
     }

@@ -22,6 +22,14 @@ impl Move {
     }
 }
 
+/// What came of an instruction that was tried: the frame went on, went on with a turn, or stands where it stood.
+#[derive(Clone, Copy)]
+pub enum Quick {
+    Goes,
+    Spends,
+    Waits,
+}
+
 /// Why a frame stops.
 #[derive(Drop)]
 pub enum Halted {

@@ -14,6 +14,7 @@ pub enum Operation {
 }
 
 impl Operation {
+    #[inline(always)]
     pub fn apply(self, a: i64, b: i64) -> Result<i64, TrapKind>
         ensures { result ≡ operation_of self a b }
     {
@@ -38,6 +39,7 @@ pub enum Comparison {
 }
 
 impl Comparison {
+    #[inline(always)]
     pub fn holds(self, a: i64, b: i64) -> bool
         ensures { result ≡ comparison_of self a b }
     {

@@ -5,6 +5,7 @@ use crate::code::CodeKind;
 use crate::held::Held;
 use crate::stack::Stack;
 use crate::variables::Variables;
+use crate::word_stack::WordStack;
 use mpl_value::{Bytes, NoMemory, Words};
 use std::alloc::Global;
 use std::marker::Model;
@@ -56,7 +57,7 @@ impl Flow {
 pub struct Caller {
     pub code: CodeKind,
     pub place: usize,
-    pub words: Stack<i64>,
+    pub words: WordStack,
     pub flows: Stack<Flow>,
     pub variables: Variables,
 }
@@ -78,7 +79,7 @@ impl Caller {
         Caller {
             code: CodeKind::Main,
             place: 0,
-            words: Stack::new(alloc),
+            words: WordStack::new(alloc),
             flows: Stack::new(alloc),
             variables: Variables::new(alloc),
         }
@@ -137,7 +138,7 @@ impl Input {
 pub struct Running {
     pub code: CodeKind,
     pub place: usize,
-    pub words: Stack<i64>,
+    pub words: WordStack,
     pub flows: Stack<Flow>,
     pub variables: Variables,
     pub callers: Stack<Caller>,

@@ -1,5 +1,5 @@
 ghost use Rattle.std.specs.Prelude.{◌≡◌, ◌∷◌, [], ◌+◌, ◌≤◌, ◌<◌, length, drop, Some, None, IfSome, IfNone, MatchOption, OnOk, OnErr};
-ghost use Rattle.mdf_code.specs.Stacks.{popped, popped_all, pushed};
+ghost use Rattle.mdf_code.specs.Stacks.{popped, popped_all};
 ghost use Rattle.std.specs.Prelude.{IfOk};
 ghost use Rattle.mdf_vm.specs.Internal.Handing.{HandedIf};
 
@@ -91,27 +91,6 @@ impl<T: Drop> Stack<T> {
         let rest = items.len() - count;
         items[rest] = item;
         self.items.truncate(rest + 1);
-    }
-}
-
-impl<T: Copy> Stack<T> {
-    /// One after another, the last on top.
-    pub fn extend(&mut self, more: &[T]) -> Result<(), NoMemory>
-        ensures ok { OnOk result (self.new ≡ pushed more.now self.old) }
-        ensures err { OnErr result (self.new ≡ self.old) }
-    {
-        self.items.extend_from_slice(more)?;
-        Ok(())
-    }
-
-    /// The item below so many.
-    pub fn below(&self, count: u32) -> Option<T>
-        ensures value { MatchOption result (popped (drop count self.now) ≡ None) (λ item. popped (drop count self.now) ≡ Some (record { items = item; below = drop (count + 1) self.now })) }
-        ensures there { IfSome result (λ _. count < length self.now) }
-    {
-        let items = self.items.as_slice();
-        let place = items.len().checked_sub(count as usize + 1)?;
-        Some(items[place])
     }
 }
 

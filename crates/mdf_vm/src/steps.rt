@@ -2,22 +2,87 @@ ghost use Rattle.std.specs.Prelude.{◌≡◌, ◌+◌, ◌<◌, ◌≤◌, IfOk
 ghost use Rattle.mpl_value.specs.declared.body.Arg.{Arg};
 ghost use Rattle.mdf_code.specs.Alone.{framed};
 ghost use Rattle.mdf_code.specs.Steps as steps;
+ghost use Rattle.mdf_code.specs.Frames.{Around};
+ghost use Rattle.mdf_code.specs.Parts.{text_at};
 ghost use Rattle.mdf_vm.specs.Internal.Moves.{Did, next_of};
+ghost use Rattle.mdf_vm.specs.Internal.Tries.{Came, Tried};
+ghost use Rattle.mdf_vm.specs.Places.{code_of};
 ghost use Rattle.mdf_vm.specs.Runnings.{frame_of};
 ghost use Rattle.mdf_vm.specs.Internal.Turns.{ComesTo, GoesOn, halt_of};
 ghost use Rattle.mdf_vm.specs.Results.{knows_of};
 ghost use Rattle.mdf_vm.specs.Runs.{RunsTo, Went};
 
-use crate::code::instruction_at;
-use crate::moves::{Halted, Move, STRAY};
+use crate::code::{instruction_at, text_of};
+use crate::moves::{Halted, Move, Quick, STRAY};
 use crate::operation::{Comparison, Operation};
-use crate::results::Setting;
+use crate::results::{Results, Setting};
 use crate::running::Running;
 use mdf_code::{Image, Instr, RawImage};
 use mpl_value::NoMemory;
 
 impl Running {
+    /// The instruction where the frame stands, where it is one that comes often and the frame just goes on.
+    #[inline(always)]
+    fn quick(&mut self, text: &[Instr], results: &Results) -> Quick
+        ensures came { (x : Around) → text.now ≡ text_at x.image (code_of self.old.code) → Came (steps.step (framed (knows_of results.now)) x (frame_of self.old)) self.old result self.new }
+        ensures code { self.new.code ≡ self.old.code }
+    {
+        let Some(instruction) = text.get(self.place) else {
+            return Quick::Waits;
+        };
+        let next = self.place + 1;
+        self.try_now(next, text, results, instruction)
+    }
+
+    #[inline(always)]
+    fn try_now(
+        &mut self,
+        next: usize,
+        text: &[Instr],
+        results: &Results,
+        instruction: &Instr,
+    ) -> Quick
+        requires { next ≡ self.old.place + 1 }
+        ensures did { (x : Around) → text.now ≡ text_at x.image (code_of self.old.code) → Tried (knows_of results.now) x instruction.now self.old result self.new }
+        ensures code { self.new.code ≡ self.old.code }
+    {
+        match instruction {
+            Instr::Push(word) => self.try_push(next, word),
+            Instr::Load(variable, offset, count) => {
+                self.try_load(next, results, *variable, *offset, *count)
+            }
+            Instr::Store(variable, offset, count) => {
+                self.try_store(next, results, *variable, *offset, *count)
+            }
+            Instr::LoadIndexed(variable, offset, count, _) => self.try_load_indexed(
+                next, results, *variable, *offset, *count,
+            ),
+            Instr::StoreIndexed(variable, offset, count, _) => self.try_store_indexed(
+                next, results, *variable, *offset, *count,
+            ),
+            Instr::Add(_) => self.try_compute(next, Operation::Add),
+            Instr::Sub(_) => self.try_compute(next, Operation::Sub),
+            Instr::Mul(_) => self.try_compute(next, Operation::Mul),
+            Instr::Div(_) => self.try_compute(next, Operation::Div),
+            Instr::Rem(_) => self.try_compute(next, Operation::Rem),
+            Instr::Equal => self.try_compare(next, Comparison::Equal),
+            Instr::NotEqual => self.try_compare(next, Comparison::NotEqual),
+            Instr::Less => self.try_compare(next, Comparison::Less),
+            Instr::LessEqual => self.try_compare(next, Comparison::LessEqual),
+            Instr::Greater => self.try_compare(next, Comparison::Greater),
+            Instr::GreaterEqual => self.try_compare(next, Comparison::GreaterEqual),
+            Instr::Jump(place) => self.try_jump(text, *place),
+            Instr::JumpZero(place) => self.try_jump_zero(next, text, *place),
+            Instr::Test => {
+                self.place = next;
+                Quick::Spends
+            }
+            _ => Quick::Waits,
+        }
+    }
+
     /// The instruction where the frame stands.
+    #[inline(never)]
     pub fn step(&mut self, image: &RawImage, setting: &Setting) -> Result<Move, NoMemory>
         ensures ok { IfOk result (λ move. steps.step (framed (knows_of setting.now.results)) (record { image = image.now; object = setting.now.object }) (frame_of self.old) ≡ next_of move (frame_of self.new)) }
         ensures err { OnErr result (frame_of self.new ≡ frame_of self.old) }
@@ -108,7 +173,7 @@ impl Running {
             Instr::ArgVariable(variable) => self.arg_variable(next, image, *variable),
             Instr::Send(member, count) => self.send(next, image, *member, *count),
             Instr::Post(member, count) => self.post(next, image, *member, *count),
-            Instr::SetVariable(variable) => Ok(self.set_variable(next, image, *variable)),
+            Instr::SetVariable(variable) => self.set_variable(next, image, *variable),
             Instr::DropFlow => Ok(self.drop_flow(next)),
             Instr::Force => self.force(next, &setting.results),
             Instr::Create(class) => Ok(self.create(next, image, *class)),
@@ -121,16 +186,24 @@ impl Running {
     }
 
     /// Until a turn is spent or the frame stops.
+    #[inline(always)]
     fn until_turn(&mut self, image: &Image, setting: &Setting) -> Result<Move, NoMemory>
         ensures ok { IfOk result (λ move. ComesTo (knows_of setting.now.results) (record { image = image.now; object = setting.now.object }) (frame_of self.old) move (frame_of self.new)) }
         ensures err { OnErr result (GoesOn (knows_of setting.now.results) (record { image = image.now; object = setting.now.object }) (frame_of self.old) (frame_of self.new)) }
     {
         let raw = image.raw();
+        let mut text = text_of(raw, self.code);
         loop {
+            match self.quick(text, &setting.results) {
+                Quick::Goes => continue,
+                Quick::Spends => return Ok(Move::Spends),
+                Quick::Waits => {}
+            }
             let going = self.step(raw, setting)?;
             if !going.goes() {
                 return Ok(going);
             }
+            text = text_of(raw, self.code);
         }
     }
 

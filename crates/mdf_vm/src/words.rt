@@ -21,6 +21,7 @@ use crate::running::Running;
 use mpl_value::{NoMemory, TrapKind};
 
 /// So many words from an offset, where they are there.
+#[inline(always)]
 pub fn read(words: &[i64], offset: u32, count: u32) -> Option<&[i64]>
     ensures value { option_copied result ≡ read_words offset count words.now }
     ensures there { IfSome result (λ _. offset + count ≤ length words.now) }
@@ -34,6 +35,7 @@ pub fn read(words: &[i64], offset: u32, count: u32) -> Option<&[i64]>
 }
 
 /// The word at a place.
+#[inline(always)]
 pub fn read_one(words: &[i64], place: u32) -> Option<i64>
     ensures { option_map (λ word. word ∷ []) result ≡ read_words place 1 words.now }
 {
@@ -41,6 +43,7 @@ pub fn read_one(words: &[i64], place: u32) -> Option<i64>
 }
 
 /// An index, where it is one of an array of so many words.
+#[inline(always)]
 pub fn index_within(count: u32, index: i64) -> Option<u32>
     ensures value { result ≡ index_below count index }
     ensures below { IfSome result (λ place. place < count) }

@@ -135,8 +135,8 @@ returns-in-Post-clause-ok c =
 
 pub returns-in-SetVariable-clause-ok : goal.returns-in-SetVariable-clause-ok
 returns-in-SetVariable-clause-ok c =
-    one (knows_of c.args.setting.now.results) (record { image = c.args.image.now; object = c.args.setting.now.object }) c.args.instruction.now (instr.SetVariable c.in-SetVariable.variable) c.args.self.now c.set_variable.new.self c.set_variable.result c.in-SetVariable.is
-    (c.set_variable.ensures (knows_of c.args.setting.now.results) c.args.setting.now.object)
+    imaged (knows_of c.args.setting.now.results) c.args.image.now c.args.setting.now.object c.args.instruction.now (instr.SetVariable c.in-SetVariable.variable) c.args.self.now c.set_variable.new.self c.set_variable.result c.in-SetVariable.is
+    c.set_variable.ensures.ok
 
 pub returns-in-DropFlow-clause-ok : goal.returns-in-DropFlow-clause-ok
 returns-in-DropFlow-clause-ok c =

@@ -15,7 +15,7 @@ returns-clause-ok c =
     let held = sym c.in-Some.ensures in
     let known = sym c.in-Some-words.ensures in
     let words = c.in-Some-words.known.now in
-    let wrote = rw same at (c.in_ok-write.ensures.ok c.in-Some.held.now words held known) in
+    let wrote = rw same at (c.in_ok-write.ensures.ok c.in-Some.held words held known) in
     let f = frame_of c.args.self.now in
     rw (held, known)
     (ap (or_strays f) (stored (knows_of c.args.results.now) c.args.variable (record f { words = drop 2 c.args.self.now.words }) (write_words c.args.at (c.args.word ∷ []) words)

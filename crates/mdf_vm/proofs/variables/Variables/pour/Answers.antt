@@ -1,24 +1,23 @@
-use Rattle.std.proofs.Common.{ap, ◌∙◌, ◌+◌, ◌++◌, arith, drop, length, set, take}
+use Rattle.std.proofs.Common.{◌<◌, ap, ap₂, arith, drop, get_or, length, refl, sym, take, ◌+◌, ◌++◌, ◌∙◌}
 use Rattle.std.proofs.lemmas.List.{length-set}
-use Rattle.mdf_vm.specs.Internal.Pouring.{all_poured}
-use Rattle.mdf_vm.proofs.Poured.{poured_all, poured_more}
+use Rattle.std.proofs.lemmas.Option.{get_or_from_slice_get, slice_get-get_or}
+use Rattle.mdf_code.specs.Alone.{Pending}
+use Rattle.mdf_vm.specs.Internal.Pouring.{all_poured, poured}
+use Rattle.mdf_vm.proofs.Laid.{seen_count}
+use Rattle.mdf_vm.proofs.Poured.{poured_more}
 use Rattle.mdf_vm.proofs.variables.Variables.pour.Goals as goal
 
 pub loop-place-preserved : goal.loop-place-preserved
 loop-place-preserved c =
-    let items = c.loop-place.self-inside.items.items in
+    let now = c.loop-place.self in
     let place = c.loop-place.place in
-    let changed = set items place c.pour-rest.new.self in
-    let same = ap length c.as_slice-count.ensures.value in (
-      ap (λ rest. take (place + 1) changed ++ all_poured (drop (place + 1) changed) rest) c.pour-rest.ensures.left
-          ∙ poured_more items c.self.inside.items.items c.args.words.now c.loop-place.rest.now place c.index_mut-held.result.now c.pour-rest.new.self
-          (omega (arith, same, c.loop-place.invariant.1, c.loop-place-test.true)) c.index_mut-held.ensures.value c.loop-place.invariant.0 c.pour-rest.ensures.held,
-      length-set items place c.pour-rest.new.self ∙ c.loop-place.invariant.1,
+    let rest = c.loop-place.rest.now in
+    let old = get_or now place (Pending 0) in
+    let count = seen_count c.self.inside.words.items c.self.inside.slots.items c.args.self.now c.self.view_is in
+    let within : place < length now = omega (arith, c.loop-place-test.true, ap length c.as_slice-count.ensures.value, count, c.loop-place.invariant.1) in
+    let there = slice_get-get_or now place (Pending 0) within in
+    let is = c.pour_into-rest.ensures.held old there in (
+      ap₂ (λ l r. take (place + 1) l ++ all_poured (drop (place + 1) l) r) is (c.pour_into-rest.ensures.left old there)
+          ∙ poured_more now c.args.self.now c.args.words.now rest place old (poured old rest) within (sym (get_or_from_slice_get now place old old there)) c.loop-place.invariant.0 refl,
+      ap length is ∙ (length-set now place (poured old rest) ∙ c.loop-place.invariant.1),
     )
-
-pub returns : goal.returns
-returns c =
-    let same = ap length c.as_slice-count.ensures.value in
-    poured_all c.loop-place.self-inside.items.items c.self.inside.items.items c.args.words.now c.loop-place.rest.now c.loop-place.place
-    (omega (arith, same, c.loop-place.invariant.1, c.loop-place-test.false)) c.loop-place.invariant.0
-    ∙ ap (λ held. all_poured held c.args.words.now) c.self.view_is
