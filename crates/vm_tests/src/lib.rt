@@ -2,12 +2,14 @@
 #![tactic(auto)]
 
 #[cfg(test)]
-mod calls;
+mod buffer;
+#[cfg(test)]
+mod fib;
 #[cfg(test)]
 mod images;
 #[cfg(test)]
 mod loops;
 #[cfg(test)]
-mod objects;
-#[cfg(test)]
 mod room;
+#[cfg(test)]
+mod rows;
