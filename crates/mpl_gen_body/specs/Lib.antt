@@ -1,0 +1,2 @@
+-- How statements are written one after another.
+pub mod Leaving

@@ -1,0 +1,5 @@
+-- What is written behind the code that is there.
+pub mod Primaries
+pub mod ByNumber
+pub mod RowCodes
+pub mod Texts
