@@ -1,2 +1,0 @@
--- How statements are written one after another.
-pub mod Leaving

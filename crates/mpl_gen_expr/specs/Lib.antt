@@ -1,5 +1,0 @@
--- What is written behind the code that is there.
-pub mod Primaries
-pub mod ByNumber
-pub mod RowCodes
-pub mod Texts

@@ -1,9 +1,0 @@
-//! The code of expressions, flows and calls.
-#![tactic(auto)]
-
-pub mod alone;
-pub mod codes;
-pub mod expressions;
-pub mod flows;
-pub mod kinds;
-pub mod places;

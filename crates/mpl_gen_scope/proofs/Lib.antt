@@ -1,6 +1,0 @@
-pub mod Blocks
-pub mod Classes
-pub mod Marked
-pub mod Tables
-pub mod Variables
-pub mod Words
