@@ -18,3 +18,11 @@ pub mod SafeSteps
 pub mod SafeExpressions
 pub mod SafeFlows
 pub mod SafeStores
+pub mod SafeElements
+pub mod SafeLeaves
+pub mod SafeForcing
+pub mod SafeAssignments
+pub mod SafeStatements
+pub mod SafeBodies
+pub mod SafeTold
+pub mod SafeStarts

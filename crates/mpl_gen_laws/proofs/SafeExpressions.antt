@@ -47,7 +47,8 @@ use Rattle.mpl_gen_code.proofs.Places.{element_at, from_either, from_followed, f
 use Rattle.mpl_gen_code.proofs.Popping.{given_is, if_false, if_true, pushed_both, read_there, true_is}
 use Rattle.mpl_gen_code.proofs.Reaching.{From}
 use Rattle.mpl_gen_code.proofs.Scoped.{IsFrontOf, IsSlot, WellScoped, got_in_front, slot_is, slot_sized}
-use Rattle.mpl_gen_laws.proofs.SafeSteps.{At, HeldFits, Is, Later, Onward, Run, Scene, VarsFit, all_sizes, frame, known_long, later_same, later_then, needed, performs, still_known, text, x, zip_get}
+use Rattle.mpl_gen_laws.specs.SafeFrames.{HeldFits}
+use Rattle.mpl_gen_laws.proofs.SafeSteps.{At, Is, Later, Onward, Run, Scene, VarsFit, all_sizes, frame, known_long, later_same, later_then, needed, performs, still_known, text, x, zip_get}
 
 -- ---- what is known of a scene
 

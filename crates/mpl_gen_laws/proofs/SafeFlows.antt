@@ -1,6 +1,6 @@
 -- The code of flows and calls is safe in a frame alone, where it is safe behind it and each use is marked.
 use Rattle.std.proofs.Common.{◌≡◌, ◌≤◌, ℕ, suc, ◌+◌, Bool, true, false, not, List, [], ◌∷◌, length, map, Option, Some, None, if◌then◌else◌, ℤ, pos, refl, ap, sym, subst, arith, ◌∙◌}
-use Rattle.std.specs.List.{slice_get}
+use Rattle.std.specs.List.{AllZip, slice_get}
 use Rattle.std.specs.Ordering.{int_eq}
 use Rattle.std.specs.Prelude.{◌==◌}
 use Rattle.mpl_ast.specs.declared.class.Formal.{Formal}
@@ -35,33 +35,39 @@ use Rattle.mpl_gen_code.proofs.Fronts.{formals_first}
 use Rattle.mpl_gen_code.proofs.Places.{from_followed, from_joined}
 use Rattle.mpl_gen_code.proofs.Popping.{given_is, if_false, if_true, popped_pushed, pushed_both, true_is}
 use Rattle.mpl_gen_code.proofs.Reaching.{From}
-use Rattle.mpl_gen_laws.specs.SafeFrames.{Safe}
+use Rattle.mpl_gen_laws.specs.SafeFrames.{HeldArguments, HeldFits, Safe}
 use Rattle.mpl_gen_laws.proofs.SafeExpressions.{Called, InScope, MayIn, expr_follows, moved, reads_place, slot_size, upto_before, variable}
-use Rattle.mpl_gen_laws.proofs.SafeSteps.{At, HeldFits, Is, Later, Onward, Run, Scene, VarsFit, all_sizes, frame, later_same, later_then, performs, text, x}
+use Rattle.mpl_gen_laws.proofs.SafeSteps.{At, Is, Later, Onward, Run, Scene, VarsFit, all_sizes, frame, later_same, later_then, performs, text, x}
 
 -- a flow value of so many words is on top behind a place
 abbrev pub ThenFlow : (C : Scene) → ℕ → Run C → ℕ → List ℤ → List (Flow Held) → List Held → ℕ → Type 0
 ThenFlow C n D q ws fs vs count = (m : ℕ) → m ≤ n → (E : Run C) → Later C D E → (v : Held) → HeldFits C.sizes count v → At C m E q ws (record { value = v; words = count } ∷ fs) vs
 
--- a flow value for each formal
+-- a flow value of its size for each formal
 abbrev pub FlowsFor : (ℕ → ℕ) → List Declaration → List Formal → List (Flow Held) → Type 0
 FlowsFor sizes ds [] [] = Unit {0}
 FlowsFor sizes ds [] (flow ∷ flows) = ⊥
 FlowsFor sizes ds (formal ∷ formals) [] = ⊥
-FlowsFor sizes ds (formal ∷ formals) (flow ∷ flows) = (flow.words ≡ words_of_formal ds formal) × FlowsFor sizes ds formals flows
+FlowsFor sizes ds (formal ∷ formals) (flow ∷ flows) = (flow.words ≡ words_of_formal ds formal) × HeldFits sizes flow.words flow.value × FlowsFor sizes ds formals flows
 
 many_flows : (sizes : ℕ → ℕ) (ds : List Declaration) (formals : List Formal) (flows : List (Flow Held)) → FlowsFor sizes ds formals flows → length flows ≡ length formals
 many_flows sizes ds [] [] h = refl
 many_flows sizes ds [] (flow ∷ flows) h = absurd h
 many_flows sizes ds (formal ∷ formals) [] h = absurd h
-many_flows sizes ds (formal ∷ formals) (flow ∷ flows) h = ap suc (many_flows sizes ds formals flows h.1)
+many_flows sizes ds (formal ∷ formals) (flow ∷ flows) h = ap suc (many_flows sizes ds formals flows h.2)
 
 agree_flows : (sizes : ℕ → ℕ) (ds : List Declaration) (formals : List Formal) (flows : List (Flow Held)) → FlowsFor sizes ds formals flows → sizes_agree (map (words_of_formal ds) formals) flows ≡ true
 agree_flows sizes ds [] [] h = refl
 agree_flows sizes ds [] (flow ∷ flows) h = absurd h
 agree_flows sizes ds (formal ∷ formals) [] h = absurd h
 agree_flows sizes ds (formal ∷ formals) (flow ∷ flows) h =
-    if_true (sizes_agree (map (words_of_formal ds) formals) flows) false (ap (λ n. n == words_of_formal ds formal) h.0 ∙ same_number (words_of_formal ds formal)) ∙ agree_flows sizes ds formals flows h.1
+    if_true (sizes_agree (map (words_of_formal ds) formals) flows) false (ap (λ n. n == words_of_formal ds formal) h.0 ∙ same_number (words_of_formal ds formal)) ∙ agree_flows sizes ds formals flows h.2
+
+held_flows : (sizes : ℕ → ℕ) (ds : List Declaration) (formals : List Formal) (flows : List (Flow Held)) → FlowsFor sizes ds formals flows → AllZip (HeldFits sizes) (map (words_of_formal ds) formals) (values_of flows)
+held_flows sizes ds [] [] h = tt
+held_flows sizes ds [] (flow ∷ flows) h = absurd h
+held_flows sizes ds (formal ∷ formals) [] h = absurd h
+held_flows sizes ds (formal ∷ formals) (flow ∷ flows) h = (subst (λ n. HeldFits sizes n flow.value) h.0 h.1, held_flows sizes ds formals flows h.2)
 
 abbrev pub ThenFlows : (C : Scene) → List Declaration → ℕ → Run C → ℕ → List ℤ → List (Flow Held) → List Held → List Formal → Type 0
 ThenFlows C ds n D q ws fs vs formals = (m : ℕ) → m ≤ n → (E : Run C) → Later C D E → (flows : List (Flow Held)) → FlowsFor C.sizes ds formals flows → At C m E q ws (pushed flows fs) vs
@@ -89,11 +95,18 @@ module _ (C : Scene) (may : May) (env : Env) (marked : (id : ℕ) → env.marks 
       (e
       ∙ given_is (popped_all (length m.formals) (pushed flows fs)) _ _ (popped_pushed flows fs (length m.formals) (many_flows C.sizes ds m.formals flows for))
       ∙ true_is (sizes_agree (sizes_of_formals (member_image ds marks class m)) flows) _ (ap (λ sizes. sizes_agree sizes flows) (formals_sizes class m) ∙ agree_flows C.sizes ds m.formals flows for))
-      (λ k less sized.
-      let words : result_words_of C.image m.id ≡ words_of_result ds m.result = words_same C.image ds marks class m (compiled.members class m is) in
-      subst (λ count. Safe C.image C.object C.sizes k (D.calls + 1) D.knows (frame C (called D) (p + 1) rest (record { value = Pending (D.calls + 1); words = count } ∷ fs) vs)) (sym words)
-      (subst (λ r. At C k (called D) r rest (record { value = Pending (D.calls + 1); words = words_of_result ds m.result } ∷ fs) vs) (sym next)
-      (h k (omega (arith, less)) (called D) (record { keeps = λ result words e. e }) (Pending (D.calls + 1)) (sized ∙ words))))
+      (λ k less. (
+        arguments_fit,
+        (λ sized.
+            let words : result_words_of C.image m.id ≡ words_of_result ds m.result = words_same C.image ds marks class m (compiled.members class m is) in
+            subst (λ count. Safe C.image C.object C.sizes k (D.calls + 1) D.knows (frame C (called D) (p + 1) rest (record { value = Pending (D.calls + 1); words = count } ∷ fs) vs)) (sym words)
+            (subst (λ r. At C k (called D) r rest (record { value = Pending (D.calls + 1); words = words_of_result ds m.result } ∷ fs) vs) (sym next)
+            (h k (omega (arith, less)) (called D) (record { keeps = λ result words e. e }) (Pending (D.calls + 1)) (sized ∙ words)))),
+      )) where
+        arguments_fit : HeldArguments C.sizes (values_of flows) (slice_get C.image.members m.id)
+        arguments_fit =
+            subst (HeldArguments C.sizes (values_of flows)) (sym (compiled.members class m is).stands)
+            (subst (λ sizes. AllZip (HeldFits C.sizes) sizes (values_of flows)) (sym (formals_sizes class m)) (held_flows C.sizes ds m.formals flows for))
 
   -- a member of this kind, with as many formals
   member_there : {V : Type 0} (class : Class) (m : Member) → MemberIs ds class m → (count : ℕ) → length m.formals ≡ count → (kind : Bool → Bool) → kind class.is_regular ≡ true → (next : RawMember → Does V)
@@ -127,7 +140,7 @@ module _ (C : Scene) (may : May) (env : Env) (marked : (id : ℕ) → env.marks 
   -- ---- what is passed on
 
   -- known words become a flow value
-  arg_words : (n : ℕ) (D : Run C) (p q : ℕ) (words ws : List ℤ) (fs : List (Flow Held)) (vs : List Held) (count : ℕ) → length words ≡ count → Is C p (instr.ArgWords count) → p + 1 ≡ q → ThenFlow C n D q ws fs vs count → At C n D p (pushed words ws) fs vs
+  pub arg_words : (n : ℕ) (D : Run C) (p q : ℕ) (words ws : List ℤ) (fs : List (Flow Held)) (vs : List Held) (count : ℕ) → length words ≡ count → Is C p (instr.ArgWords count) → p + 1 ≡ q → ThenFlow C n D q ws fs vs count → At C n D p (pushed words ws) fs vs
   arg_words n D p q words ws fs vs count long is next h =
       performs C n D p (pushed words ws) fs vs (instr.ArgWords count) (frames.Goes (frame C D (p + 1) ws (record { value = Words words; words = count } ∷ fs) vs)) is
       (given_is (popped_all count (pushed words ws)) _ _ (popped_pushed words ws count long))
@@ -283,4 +296,4 @@ module _ (C : Scene) (may : May) (env : Env) (marked : (id : ℕ) → env.marks 
         flows_follow ts formals m (omega (arith, le, few)) E parts.middle q ws (record { value = v; words = words_of_expr env t } ∷ fs) vs parts.second up fits.2 fit
         (λ j less F after flows for.
         subst (λ all. At C j F q ws all vs) (sym (pushed_both (record { value = v; words = words_of_expr env t } ∷ []) flows fs))
-        (h j (omega (arith, le, less)) F (later_then C D E F later after) (record { value = v; words = words_of_expr env t } ∷ flows) (fits.1, for))))
+        (h j (omega (arith, le, less)) F (later_then C D E F later after) (record { value = v; words = words_of_expr env t } ∷ flows) (fits.1, held, for))))

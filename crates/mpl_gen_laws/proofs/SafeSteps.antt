@@ -17,13 +17,9 @@ use Rattle.mdf_code.specs.Steps as steps
 use Rattle.mdf_code.specs.Told.{learns}
 use Rattle.mdf_code.specs.declared.instr.Instr.{Instr}
 use Rattle.mdf_code.specs.declared.raw.RawImage.{RawImage}
-use Rattle.mpl_gen_laws.specs.SafeFrames.{Safe, SafeNext}
+use Rattle.mpl_gen_laws.specs.SafeFrames.{HeldFits, Safe, SafeNext}
 
 -- ---- what fits
-
-abbrev pub HeldFits : (ℕ → ℕ) → ℕ → Held → Type 0
-HeldFits sizes size (Words words) = length words ≡ size
-HeldFits sizes size (Pending result) = sizes result ≡ size
 
 pub zip_get : {A : Type 0} (P : ℕ → A → Type 0) (sizes : List ℕ) (values : List A) (n size : ℕ) → AllZip P sizes values → slice_get sizes n ≡ Some size → (v : A) × (slice_get values n ≡ Some v) × P size v × (n < length values)
 zip_get P [] values n size fit e = absurd cc

@@ -18,7 +18,8 @@ use Rattle.mdf_code.specs.declared.instr.Instr.TheVariants as instr
 use Rattle.mdf_code.specs.declared.raw.RawClass.{RawClass}
 use Rattle.mdf_code.proofs.FittingValues.{zeros_fit}
 use Rattle.mpl_gen_code.proofs.Popping.{given_is, popped_pushed, set_there, true_is, write_there}
-use Rattle.mpl_gen_laws.proofs.SafeSteps.{At, HeldFits, Is, Later, Onward, Run, Scene, VarsFit, all_sizes, frame, known_long, performs, x, zip_get, zip_set}
+use Rattle.mpl_gen_laws.specs.SafeFrames.{HeldFits}
+use Rattle.mpl_gen_laws.proofs.SafeSteps.{At, Is, Later, Onward, Run, Scene, VarsFit, all_sizes, frame, known_long, performs, x, zip_get, zip_set}
 
 module _ (C : Scene) where
   -- a place is safe with other variables

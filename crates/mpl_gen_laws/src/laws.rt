@@ -2,7 +2,9 @@ ghost use Rattle.std.specs.Prelude.{◌≡◌, ℕ, ℤ, Bool, true, List, Some,
 ghost use Rattle.std.specs.FinMap.{empty};
 ghost use Rattle.std.specs.List.{AllZip};
 ghost use Rattle.mpl_ast.specs.declared.program.Program.{Program};
+ghost use Rattle.mpl_value.specs.declared.body.BodyStart.{BodyStart};
 ghost use Rattle.mpl_mean.specs.Accepted.{IsAcceptable};
+ghost use Rattle.mpl_mean.specs.Laws.Sizes.{StartFits};
 ghost use Rattle.mpl_mean.specs.Meaning.ExpressionMeaning.{value_of};
 ghost use Rattle.mpl_mean.specs.Meaning.DirectRun.{direct_run, main_start};
 ghost use Rattle.mpl_mean.specs.Meaning.Layout.{Class};
@@ -13,6 +15,7 @@ ghost use Rattle.mdf_core.specs.Choices.{choices};
 ghost use Rattle.mdf_mean.specs.Guards.{choices_by, class_at};
 ghost use Rattle.mpl_gen_code.specs.ProgramImage.{image_of};
 ghost use Rattle.mdf_code.specs.Images.{is_image};
+ghost use Rattle.mdf_code.specs.Right.{StraysAsInPlace};
 ghost use Rattle.mdf_code.specs.Yields.{YieldsUnstrayed};
 ghost use Rattle.mpl_gen_laws.specs.PrintedLines.{LinesHaveValues};
 ghost use Rattle.mpl_gen_laws.specs.SameChoices.{SameChoice};
@@ -39,4 +42,11 @@ pub fn images_of_programs_are_images()
 pub fn main_runs_as_its_code()
     ensures { (p : Program) (marks : ℕ → Bool) → is_typed p ≡ true → ((node : ℕ) → MayBePending p node → marks node ≡ true) → (input : List ℤ) (turns : ℕ) →
         YieldsUnstrayed (image_of p marks) (main_start input) empty turns (direct_run p input turns) }
+{}
+
+/// In the code of a well typed program where each use is marked a frame alone strays nowhere but where its body does in
+/// place, from a start that fits and without replies: it loads no variable that it didn't learn.
+pub fn frames_of_marked_programs_stray_nowhere()
+    ensures { (p : Program) (marks : ℕ → Bool) → is_typed p ≡ true → ((node : ℕ) → marks node ≡ true) → (start : BodyStart) → StartFits p start →
+        StraysAsInPlace (image_of p marks) start empty }
 {}

@@ -5,7 +5,8 @@ mod laws;
 mod worked;
 
 pub use laws::{
-    guard_code_holds_as_the_language_says, images_of_programs_are_images, main_runs_as_its_code,
+    frames_of_marked_programs_stray_nowhere, guard_code_holds_as_the_language_says,
+    images_of_programs_are_images, main_runs_as_its_code,
 };
 pub use worked::{
     images_call, images_keep_the_order, images_trap, needs_stand_where_the_marks_are,
