@@ -1,9 +1,0 @@
-//! Tests of the uses that may find a pending result, with the lexer, the parser and the checker below them.
-#![tactic(auto)]
-
-#[cfg(test)]
-mod mains;
-#[cfg(test)]
-mod marked;
-#[cfg(test)]
-mod uses;
