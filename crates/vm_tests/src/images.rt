@@ -1,62 +1,57 @@
 ghost use Rattle.std.specs.Prelude.{◌≤◌};
 
-use crate::rows::{Row, code};
 use mdf_code::{
-    Image, RawClass, RawClasses, RawEntries, RawFunctions, RawImage, RawMember, RawMembers,
-    is_sound,
+    CodeText, Image, Instr, RawClass, RawClasses, RawCode, RawEntries, RawFunctions, RawImage,
+    RawMember, RawMembers, Sizes, is_sound,
 };
 use mdf_vm::{Frame, Stop};
-use mpl_value::{BodyStart, MemberId, NoMemory, Words};
+use mpl_value::{BodyStart, Bytes, MemberId, NoMemory, Words};
 use std::alloc::Global;
 use std::test::Fail;
 
-/// A member's formals, whether it gives a word, its variables and its code.
-#[derive(Drop)]
-pub struct Body<'a> {
-    pub formals: u32,
-    pub gives: bool,
-    pub variables: u32,
-    pub rows: &'a [Row],
-}
-
-fn member(alloc: Global, body: &Body<'_>) -> Result<RawMember, NoMemory> {
-    Ok(RawMember {
-        class: 0,
-        formals: body.formals,
-        result: if body.gives { Some(1) } else { None },
-        body: code(alloc, body.variables, body.rows)?,
+/// A code with variables of one word each.
+pub fn code(alloc: Global, variables: u32, instructions: CodeText) -> Result<RawCode, NoMemory> {
+    let mut vars = Sizes::new(alloc);
+    for _variable in 0..variables {
+        vars.push(1)?;
+    }
+    Ok(RawCode {
+        vars,
+        code: instructions,
     })
 }
 
-/// An image of a class with so many words of state, none of them where it is regular, and of `main`.
+/// An image of one class with one member, or of none.
 pub fn image(
     alloc: Global,
-    words: u32,
-    bodies: &[Body<'_>],
-    variables: u32,
-    main: &[Row],
+    member: Option<(bool, RawMember)>,
+    main: RawCode,
 ) -> Result<Image, Fail> {
     let mut classes = RawClasses::new(alloc);
-    classes.push(RawClass {
-        regular: words == 0,
-        words,
-        selects: false,
-    })?;
     let mut members = RawMembers::new(alloc);
-    for body in bodies {
-        members.push(member(alloc, body)?)?;
+    if let Some((regular, member)) = member {
+        classes.push(RawClass {
+            regular,
+            words: if regular { 0 } else { 1 },
+            selects: false,
+        })?;
+        members.push(member)?;
     }
     let raw = RawImage {
         functions: RawFunctions::new(alloc),
         classes,
         members,
         entries: RawEntries::new(alloc),
-        main: code(alloc, variables, main)?,
+        main,
     };
     if !is_sound(alloc, &raw)? {
         return Err("no image".into());
     }
     Ok(Image::of(raw))
+}
+
+pub fn main_start(alloc: Global) -> BodyStart {
+    start(alloc, None, Words::new(alloc), Words::new(alloc))
 }
 
 pub fn start(alloc: Global, member: Option<MemberId>, args: Words, state: Words) -> BodyStart {
@@ -70,27 +65,44 @@ pub fn start(alloc: Global, member: Option<MemberId>, args: Words, state: Words)
     }
 }
 
-/// The frame of `main` at its start.
-pub fn main_frame(alloc: Global, image: &Image) -> Result<Frame, Fail> {
-    let begin = start(alloc, None, Words::new(alloc), Words::new(alloc));
-    match Frame::start(alloc, image, &begin) {
-        Ok(frame) => Ok(frame),
-        Err(_) => Err("no memory".into()),
-    }
+pub fn letter_i(alloc: Global) -> Result<Instr, NoMemory> {
+    Ok(Instr::Print(Bytes::from_slice(alloc, b"i")?))
 }
 
-/// Runs on, and once more where no memory was left.
-pub fn run(image: &Image, frame: &mut Frame, quantum: u32) -> Option<Stop>
-    requires some { 1 ≤ quantum }
-    requires few { quantum ≤ 256 }
-{
-    for _try in 0..2 {
-        if !frame.is_ready() {
-            return None;
-        }
-        if let Ok(stop) = frame.run(image, quantum) {
-            return Some(stop);
+/// A frame and its image.
+#[derive(Drop)]
+pub struct Rig {
+    pub image: Image,
+    pub frame: Frame,
+}
+
+impl Rig {
+    /// At the start of `main`.
+    pub fn of_main(
+        alloc: Global,
+        member: Option<(bool, RawMember)>,
+        main: RawCode,
+    ) -> Result<Rig, Fail> {
+        let image = image(alloc, member, main)?;
+        match Frame::start(alloc, &image, &main_start(alloc)) {
+            Ok(frame) => Ok(Rig { image, frame }),
+            Err(_) => Err("no memory".into()),
         }
     }
-    None
+
+    /// Runs on, and once more where no memory was left.
+    pub fn run(&mut self, quantum: u32) -> Option<Stop>
+        requires some { 1 ≤ quantum }
+        requires few { quantum ≤ 256 }
+    {
+        for _try in 0..2 {
+            if !self.frame.is_ready() {
+                return None;
+            }
+            if let Ok(stop) = self.frame.run(&self.image, quantum) {
+                return Some(stop);
+            }
+        }
+        None
+    }
 }

@@ -2,14 +2,12 @@
 #![tactic(auto)]
 
 #[cfg(test)]
-mod buffer;
-#[cfg(test)]
-mod fib;
+mod calls;
 #[cfg(test)]
 mod images;
 #[cfg(test)]
 mod loops;
 #[cfg(test)]
-mod room;
+mod objects;
 #[cfg(test)]
-mod rows;
+mod room;
