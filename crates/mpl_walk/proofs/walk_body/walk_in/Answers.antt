@@ -23,8 +23,8 @@ returns-in-Some-member_code c =
     let id = c.in-Some.id in
     let typed : is_typed p ≡ true = c.keeps_rules.ensures in
     let counted =
-    ap (λ counts. Some counts) c.as_slice-in-Some-member_code.ensures.value ∙ ap words_in (sym c.in-Some-2.is) ∙ c.in_ok-counts-in-Some.ensures in
-    member_means (setting_seen c.args.setting.now) p c.args.start.now c.walk_member.result id c.in-Some-member_code.code c.as_slice-in-Some-member_code.result.now c.requires.image typed
+    ap (λ counts. Some counts) c.as_slice.ensures.value ∙ ap words_in (sym c.in-Some-2.is) ∙ c.in_ok-counts-in-Some.ensures in
+    member_means (setting_seen c.args.setting.now) p c.args.start.now c.walk_member.result id c.in-Some-member_code.code c.as_slice.result.now c.requires.image typed
     c.in-Some.is (known_of p c.args.start.now id c.in-Some.is c.requires.fits) counted (sym c.member_code.ensures ∙ c.in-Some-member_code.is) c.walk_member.ensures
 
 pub unreachable-requires : goal.unreachable-requires
