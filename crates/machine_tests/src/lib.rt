@@ -8,4 +8,6 @@ mod futures;
 #[cfg(test)]
 mod matching;
 #[cfg(test)]
+mod serials;
+#[cfg(test)]
 mod values;

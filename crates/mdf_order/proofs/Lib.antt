@@ -1,0 +1,5 @@
+mod Changes
+pub mod InOrderSerials
+pub mod Items
+mod Marks
+mod Sums
