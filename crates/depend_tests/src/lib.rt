@@ -1,0 +1,11 @@
+//! Tests of the uses that may find a pending result, with the lexer, the parser and the checker below them.
+#![tactic(auto)]
+
+#[cfg(test)]
+mod mains;
+#[cfg(test)]
+mod marked;
+#[cfg(test)]
+mod nests;
+#[cfg(test)]
+mod uses;

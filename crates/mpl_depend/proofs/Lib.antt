@@ -1,0 +1,16 @@
+pub mod Carrying
+pub mod Settling
+pub mod Walks
+pub mod Loops
+pub mod LoopEnds
+pub mod FlagSets
+pub mod HeadSets
+pub mod Rows
+pub mod BodyMarks
+pub mod Variables
+pub mod Seen
+pub mod Blocks
+pub mod Members
+pub mod Marking
+pub mod Found
+pub mod Widths

@@ -1,0 +1,15 @@
+-- What is said of the ways through a body, and of the walk along them.
+pub mod Carried
+pub mod Flags
+pub mod Heads
+pub mod Sets
+pub mod Settled
+pub mod SeenWays
+pub mod Regular
+pub mod Sights
+pub mod SeenClass
+pub mod SeenLocals
+pub mod SeenScope
+pub mod Scoping
+pub mod Bodies
+pub mod Walking
