@@ -14,7 +14,11 @@ pub mod SpelledLines
 pub mod OpenedImages
 pub mod TypedRuns
 pub mod ClassChoices
+pub mod LooseWays
+pub mod CoveredBodies
+pub mod Loosened
 pub mod SafeSteps
+pub mod SafeAhead
 pub mod SafeExpressions
 pub mod SafeFlows
 pub mod SafeStores

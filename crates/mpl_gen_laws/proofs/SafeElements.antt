@@ -1,5 +1,5 @@
 -- An element that is stored is safe in a frame alone, where it is safe behind it.
-use Rattle.std.proofs.Common.{◌≡◌, ◌≢◌, ◌≤◌, ◌<◌, ℕ, zero, suc, ◌+◌, true, List, [], ◌∷◌, length, Option, Some, None, ℤ, pos, refl, ap, sym, subst, arith, ◌∙◌}
+use Rattle.std.proofs.Common.{◌≡◌, ◌≤◌, ◌<◌, ℕ, ◌+◌, true, List, [], ◌∷◌, length, Option, Some, None, ℤ, pos, refl, ap, sym, subst, arith, ◌∙◌}
 use Rattle.std.proofs.lemmas.List.{length-replicate}
 use Rattle.std.proofs.lemmas.Option.{slice_get_within}
 use Rattle.std.specs.List.{slice_get, slice_set, slice_index_or}
@@ -21,32 +21,23 @@ use Rattle.mpl_gen_code.proofs.Places.{element_at}
 use Rattle.mpl_gen_code.proofs.Popping.{given_is, popped_pushed, read_there, set_there, true_is, write_there}
 use Rattle.mpl_gen_code.proofs.Reaching.{From}
 use Rattle.mpl_gen_laws.specs.SafeFrames.{HeldFits}
+use Rattle.mpl_gen_laws.proofs.Loosened.{got_other, got_set}
 use Rattle.mpl_gen_laws.proofs.SafeSteps.{At, Is, Later, Onward, Run, Scene, VarsFit, all_sizes, frame, known_long, performs, text, x, zip_get, zip_set}
 use Rattle.mpl_gen_laws.proofs.SafeStores.{clears, sets, with_state}
 
--- ---- what is held after a change
-
-got_set : {A : Type 0} (xs : List A) (n : ℕ) (x : A) → n < length xs → slice_get (slice_set xs n x) n ≡ Some x
-got_set [] n x h = absurd (let e : n < 0 = h in omega arith)
-got_set (y ∷ xs) zero x h = refl
-got_set (y ∷ xs) (suc n) x h = got_set xs n x (let e : suc n < suc (length xs) = h in omega arith)
-
-got_other : {A : Type 0} (xs : List A) (n m : ℕ) (x : A) → n ≢ m → slice_get (slice_set xs m x) n ≡ slice_get xs n
-got_other [] n m x h = refl
-got_other (y ∷ xs) zero zero x h = absurd (h refl)
-got_other (y ∷ xs) zero (suc m) x h = refl
-got_other (y ∷ xs) (suc n) zero x h = refl
-got_other (y ∷ xs) (suc n) (suc m) x h = got_other xs n m x (λ e. h (ap suc e))
-
 module _ (C : Scene) where
-  -- a place is safe with these words, whatever fits the variables hold
-  abbrev pub ThenFitting : ℕ → Run C → ℕ → List ℤ → List (Flow Held) → Type 0
-  ThenFitting n D q ws fs = (us : List Held) → VarsFit C us → (m : ℕ) → m < n → At C m D q ws fs us
+  -- a place is safe with whatever words this variable holds
+  abbrev pub ThenStored : ℕ → Run C → ℕ → List ℤ → List (Flow Held) → List Held → ℕ → Type 0
+  ThenStored n D q ws fs vs variable = (new : List ℤ) → VarsFit C (slice_set vs variable (Words new)) → Onward C n D q ws fs (slice_set vs variable (Words new))
+
+  -- with the index and the zeros in their variables
+  abbrev pub behind_test : ℕ → ℕ → ℤ → List Held → List Held
+  behind_test hidden count i vs = slice_set (slice_set vs hidden (Words (i ∷ []))) (hidden + 1) (Words (zeros count))
 
   -- an element of a variable that is known
   pub stores_indexed : (n : ℕ) (D : Run C) (p : ℕ) (w i : ℤ) (ws : List ℤ) (fs : List (Flow Held)) (vs : List Held) (variable offset count line size : ℕ) (v : Held) (words : List ℤ) → Is C p (instr.StoreIndexed variable offset count line)
       → slice_get (all_sizes C) variable ≡ Some size → slice_get vs variable ≡ Some v → HeldFits C.sizes size v → seen_by D.knows v ≡ arg.Know words → offset + count ≤ size → VarsFit C vs
-      → ThenFitting n D (p + 1) ws fs → At C n D p (i ∷ w ∷ ws) fs vs
+      → ThenStored n D (p + 1) ws fs vs variable → At C n D p (i ∷ w ∷ ws) fs vs
   stores_indexed n D p w i ws fs vs variable offset count line size v words is sized held fits known inside fit h = by_index (index_below count i) refl where
     total : length words ≡ size
     total = known_long C D size v words fits known
@@ -76,7 +67,7 @@ module _ (C : Scene) where
         ∙ ap (λ (o : Option ℕ). steps.at_index o line (frame C D p (i ∷ w ∷ ws) fs vs) stored) e
         ∙ given_is (write_words (offset + at) (w ∷ []) words) _ _ (write_there (offset + at) (w ∷ []) words there)
         ∙ given_is (set_at variable (Words new) vs) _ _ (set_there variable (Words new) vs (slice_get_within vs variable v held)))
-        (h (slice_set vs variable (Words new)) (zip_set (HeldFits C.sizes) (all_sizes C) vs variable size (Words new) fit sized (with_words_long (offset + at) (w ∷ []) words there ∙ total)))
+        (h new (zip_set (HeldFits C.sizes) (all_sizes C) vs variable size (Words new) fit sized (with_words_long (offset + at) (w ∷ []) words there ∙ total)))
 
   -- an element of the state
   pub keeps_indexed : (n : ℕ) (D : Run C) (p : ℕ) (w i : ℤ) (ws : List ℤ) (fs : List (Flow Held)) (vs : List Held) (offset count line : ℕ) → Is C p (instr.KeepIndexed offset count line) → has_object C.image C.code ≡ true → offset + count ≤ C.long
@@ -157,7 +148,7 @@ module _ (C : Scene) where
   -- the variable without a name holds the index behind its test
   pub index_tested : (n : ℕ) (D : Run C) (line hidden count p q : ℕ) (i : ℤ) (ws : List ℤ) (fs : List (Flow Held)) (vs : List Held) → From (text C) p (tests_index line hidden count p) q
       → slice_get (all_sizes C) hidden ≡ Some 1 → slice_get (all_sizes C) (hidden + 1) ≡ Some count → VarsFit C vs
-      → ((us : List Held) → VarsFit C us → slice_get us hidden ≡ Some (Words (i ∷ [])) → Onward C n D q ws fs us) → At C n D p (i ∷ ws) fs vs
+      → (VarsFit C (behind_test hidden count i vs) → slice_get (behind_test hidden count i vs) hidden ≡ Some (Words (i ∷ [])) → Onward C n D q ws fs (behind_test hidden count i vs)) → At C n D p (i ∷ ws) fs vs
   index_tested n D line hidden count p q i ws fs vs from first_size second_size fit h =
       performs C n D p (i ∷ ws) fs vs (instr.ArgWords 1) (frames.Goes (frame C D (p + 1) ws (record { value = Words (i ∷ []); words = 1 } ∷ fs) vs)) from.0
       (given_is (popped_all 1 (pushed (i ∷ []) ws)) _ _ (popped_pushed (i ∷ []) ws 1 refl))
@@ -177,7 +168,7 @@ module _ (C : Scene) where
       drops_words g D (p + 1 + 1 + 1 + 1 + 1) 1 (w ∷ []) ws fs vs2 from.1.1.1.1.1.0 refl
       (λ k k_less.
       let there : p + 1 + 1 + 1 + 1 + 1 + 1 ≡ q = from.1.1.1.1.1.1 in
-      subst (λ r. At C k D r ws fs vs2) (sym there) (h vs2 fit2 held_index k (omega (arith, a_less, b_less, d_less, e_less, g_less, k_less))))))))) where
+      subst (λ r. At C k D r ws fs vs2) (sym there) (h fit2 held_index k (omega (arith, a_less, b_less, d_less, e_less, g_less, k_less))))))))) where
         vs1 : List Held
         vs1 = slice_set vs hidden (Words (i ∷ []))
 

@@ -1,4 +1,5 @@
--- The code of an expression is safe in a frame alone, where it is safe behind it and each use is marked.
+-- The code of an expression is safe in a frame alone, where it is safe behind it and the uses ahead are marked where their
+-- variables are loose.
 use Rattle.std.proofs.Common.{◌≡◌, ◌≤◌, ◌<◌, ℕ, ◌+◌, Bool, true, false, not, List, [], ◌∷◌, ◌++◌, length, map, sum, Option, Some, None, if◌then◌else◌, ℤ, pos, ◌⊎◌, inl, inr, Result, Ok, Err, refl, ap, sym, subst, arith, ◌∙◌}
 use Rattle.std.proofs.lemmas.List.{length-append}
 use Rattle.std.proofs.lemmas.List.Sums.{sum_by-cons}
@@ -25,6 +26,11 @@ use Rattle.mpl_mean.specs.Meaning.Layout.{Function, Part, words_of, words_of_par
 use Rattle.mpl_mean.specs.Meaning.Values.{first_word}
 use Rattle.mpl_mean.specs.Plain.Expr.{Expr, Exprs}
 use Rattle.mpl_mean.specs.Plain.Expr as e
+use Rattle.mpl_mean.specs.Plain.Scopes as plain
+use Rattle.mpl_mean.specs.Pending.BodyWays.{binary_ways, forces, uses, value_ways, values_ways}
+use Rattle.mpl_mean.specs.Pending.Looseness.{Forces}
+use Rattle.mpl_mean.specs.Pending.Paths.{Ways}
+use Rattle.mpl_mean.specs.Pending.Paths as ways
 use Rattle.mpl_mean.proofs.Sizes.SizedStores.{words_at_long}
 use Rattle.mdf_code.specs.Alone.{Held, framed, seen_by}
 use Rattle.mdf_code.specs.Frames.{Flow, Frame, Next}
@@ -35,9 +41,9 @@ use Rattle.mdf_code.specs.Steps.{Does, does}
 use Rattle.mdf_code.specs.Steps as steps
 use Rattle.mdf_code.specs.declared.instr.Instr.{Instr}
 use Rattle.mdf_code.specs.declared.instr.Instr.TheVariants as instr
-use Rattle.mpl_gen_code.specs.ExpressionCode.{both_code, binary_code, codes_of_each, element_from, element_of, function_number, load_from, need_of, plain_code, read_code, unary_instr, value_code, values_code}
+use Rattle.mpl_gen_code.specs.ExpressionCode.{both_code, binary_code, codes_of_each, element_from, element_of, function_number, load_from, need_of, need_of_slot, plain_code, read_code, unary_instr, value_code, values_code}
 use Rattle.mpl_gen_code.specs.Fits.{ExprFits, FunctionIs, May, PlaceFits, ValuesFit, words_of_base}
-use Rattle.mpl_gen_code.specs.Pieces.{Piece, either, followed_by, joined, one}
+use Rattle.mpl_gen_code.specs.Pieces.{Piece, either, followed_by, joined, no_code, one, where_marked}
 use Rattle.mpl_gen_code.specs.Scopes.{Env, Found, Slot, found_at, whole_slot, words_of_shape}
 use Rattle.mpl_gen_code.specs.Words.{words_of_expr, words_of_found, words_of_function}
 use Rattle.mpl_gen_code.proofs.Below.{function_numbered}
@@ -48,6 +54,9 @@ use Rattle.mpl_gen_code.proofs.Popping.{given_is, if_false, if_true, pushed_both
 use Rattle.mpl_gen_code.proofs.Reaching.{From}
 use Rattle.mpl_gen_code.proofs.Scoped.{IsFrontOf, IsSlot, WellScoped, got_in_front, slot_is, slot_sized}
 use Rattle.mpl_gen_laws.specs.SafeFrames.{HeldFits}
+use Rattle.mpl_gen_laws.proofs.LooseWays.{one_then, other_then}
+use Rattle.mpl_gen_laws.proofs.Loosened.{KnownAt, SameFound, SameSlot, StandsAt, found_same, plain_env}
+use Rattle.mpl_gen_laws.proofs.SafeAhead.{Ahead, ahead_by, ahead_in_turn, ahead_later, ahead_skip, past_use, used_or_known}
 use Rattle.mpl_gen_laws.proofs.SafeSteps.{At, Is, Later, Onward, Run, Scene, VarsFit, all_sizes, frame, known_long, later_same, later_then, needed, performs, still_known, text, x, zip_get}
 
 -- ---- what is known of a scene
@@ -84,11 +93,18 @@ ThenWords C n D q ws fs vs count = (m : ℕ) → m ≤ n → (E : Run C) → Lat
 abbrev pub ThenWord : (C : Scene) → ℕ → Run C → ℕ → List ℤ → List (Flow Held) → List Held → Type 0
 ThenWord C n D q ws fs vs = (m : ℕ) → m ≤ n → (E : Run C) → Later C D E → (word : ℤ) → At C m E q (word ∷ ws) fs vs
 
+-- the same, with what lies ahead there
+abbrev pub BehindWords : (C : Scene) → (ℕ → Bool) → List Slot → ℕ → Run C → ℕ → List ℤ → List (Flow Held) → List Held → ℕ → Ways → Type 0
+BehindWords C marks scope n D q ws fs vs count rest = (m : ℕ) → m ≤ n → (E : Run C) → Later C D E → (words : List ℤ) → length words ≡ count → Ahead C marks scope E vs rest → At C m E q (pushed words ws) fs vs
+
+abbrev pub BehindWord : (C : Scene) → (ℕ → Bool) → List Slot → ℕ → Run C → ℕ → List ℤ → List (Flow Held) → List Held → Ways → Type 0
+BehindWord C marks scope n D q ws fs vs rest = (m : ℕ) → m ≤ n → (E : Run C) → Later C D E → (word : ℤ) → Ahead C marks scope E vs rest → At C m E q (word ∷ ws) fs vs
+
 abbrev pub Called : Scene → List Declaration → ℕ → Type 0
 Called C ds n = (name : List ℕ) (f : Function) → FunctionIs ds name f → (number : ℕ) → function_number ds name ≡ Some number → (D : Run C) (p : ℕ) (arguments ws : List ℤ) (fs : List (Flow Held)) (vs : List Held)
     → length arguments ≡ sum (map (words_of_formal ds) f.formals) → Is C p (instr.Call number) → ThenWords C n D (p + 1) ws fs vs (words_of ds f.result None) → At C n D p (pushed arguments ws) fs vs
 
-module _ (C : Scene) (may : May) (env : Env) (marked : (id : ℕ) → env.marks id ≡ true) (scoped : InScope C env) (allowed : MayIn C may env.parts) (N : ℕ) (below : (m : ℕ) → m ≤ N → Called C env.declarations m) where
+module _ (C : Scene) (may : May) (env : Env) (scoped : InScope C env) (allowed : MayIn C may env.parts) (N : ℕ) (below : (m : ℕ) → m ≤ N → Called C env.declarations m) where
   abbrev pub Upto : ℕ → Type 0
   Upto q = (k : ℕ) → k ≤ q → is_place C.image C.code k ≡ true
 
@@ -98,9 +114,18 @@ module _ (C : Scene) (may : May) (env : Env) (marked : (id : ℕ) → env.marks 
   pub moved : {p q : ℕ} (n : ℕ) (D : Run C) (ws : List ℤ) (fs : List (Flow Held)) (vs : List Held) → p ≡ q → At C n D q ws fs vs → At C n D p ws fs vs
   moved n D ws fs vs e = subst (λ k. At C n D k ws fs vs) (sym e)
 
-  words_by_word : (n : ℕ) (D : Run C) (q : ℕ) (ws : List ℤ) (fs : List (Flow Held)) (vs : List Held) (count : ℕ) → count ≡ 1 → ThenWord C n D q ws fs vs → ThenWords C n D q ws fs vs count
-  words_by_word n D q ws fs vs count single h m le E later words long =
-      subst (λ (words : List ℤ). At C m E q (pushed words ws) fs vs) (sym (one_word words (long ∙ single))) (h m le E later (first_word words))
+  abbrev pub Here : Run C → List Held → Ways → Type 0
+  Here D vs ways = Ahead C env.marks env.scope D vs ways
+
+  abbrev around : plain.Env
+  around = plain_env env
+
+  -- what lies ahead stays where nothing is used
+  pub onward : (n : ℕ) (D : Run C) (q : ℕ) (ws : List ℤ) (fs : List (Flow Held)) (vs : List Held) (count : ℕ) (rest : Ways) → BehindWords C env.marks env.scope n D q ws fs vs count rest → Here D vs rest → ThenWords C n D q ws fs vs count
+  onward n D q ws fs vs count rest h a m le E later words long = h m le E later words long (ahead_later C env.marks env.scope D E vs rest later a)
+
+  pub onward_word : (n : ℕ) (D : Run C) (q : ℕ) (ws : List ℤ) (fs : List (Flow Held)) (vs : List Held) (rest : Ways) → BehindWord C env.marks env.scope n D q ws fs vs rest → Here D vs rest → ThenWord C n D q ws fs vs
+  onward_word n D q ws fs vs rest h a m le E later w = h m le E later w (ahead_later C env.marks env.scope D E vs rest later a)
 
   -- ---- words
 
@@ -152,6 +177,27 @@ module _ (C : Scene) (may : May) (env : Env) (marked : (id : ℕ) → env.marks 
       needed C n n (omega arith) D p ws fs vs (instr.Need slot) v (λ words f. frames.Goes (record f { place = f.place + 1 })) is (λ E. given_is (slice_get vs slot) v _ held)
       (λ m le E later words known j less. moved j E ws fs vs there (h j (omega (arith, le, less)) E later words known))
 
+  -- a variable that is used is known behind its need, or else at once
+  pub uses_slot : (n : ℕ) (D : Run C) (p q : ℕ) (ws : List ℤ) (fs : List (Flow Held)) (vs : List Held) (id number : ℕ) (slot : Slot) (v : Held) (rest : Ways) → slice_get vs slot.number ≡ Some v → StandsAt env.scope number slot
+      → Here D vs (ways.Then (ways.Only (Forces id number)) rest) → From (text C) p (where_marked (env.marks id) (need_of_slot (Some slot)) p) q
+      → ((m : ℕ) → m ≤ n → (E : Run C) → Later C D E → (words : List ℤ) → seen_by E.knows v ≡ arg.Know words → Here E vs rest → At C m E q ws fs vs) → At C n D p ws fs vs
+  uses_slot n D p q ws fs vs id number slot v rest held stands a from h = by_mark (env.marks id) refl from (used_or_known C env.marks env.scope D vs id number slot rest stands a) where
+    past : (E : Run C) → Later C D E → (words : List ℤ) → seen_by E.knows v ≡ arg.Know words → Here E vs rest
+    past E later words known =
+        past_use C env.marks env.scope E vs id number slot rest stands (v, words, held, known) (ahead_later C env.marks env.scope D E vs (ways.Then (ways.Only (Forces id number)) rest) later a)
+
+    at_once : p ≡ q → KnownAt D.knows vs slot.number → At C n D p ws fs vs
+    at_once there k =
+        let known : seen_by D.knows v ≡ arg.Know k.1 = ap (seen_by D.knows) (same_held (sym held ∙ k.2)) ∙ k.3 in
+        moved n D ws fs vs there (h n (omega arith) D (later_same C D) k.1 known (past D (later_same C D) k.1 known)) where
+          same_held : {a b : Held} → Some a ≡ Some b → a ≡ b
+          same_held e = cc e
+
+    by_mark : (b : Bool) → env.marks id ≡ b → From (text C) p (where_marked b (need_of_slot (Some slot)) p) q → (env.marks id ≡ true) ⊎ KnownAt D.knows vs slot.number → At C n D p ws fs vs
+    by_mark true is from known = needs n D p q ws fs vs slot.number v held from.0 from.1 (λ m le E later words known. h m le E later words known (past E later words known))
+    by_mark false is from (inl marked) = absurd (cc (is, marked))
+    by_mark false is from (inr known) = at_once from known
+
   -- words that are read at a place: from a known variable, or from the state
   pub record Source (E : Run C) (vs : List Held) (found : Found) : Type 0 where
     pub base : List ℤ
@@ -189,38 +235,48 @@ module _ (C : Scene) (may : May) (env : Env) (marked : (id : ℕ) → env.marks 
             ∙ given_is (read_words found.offset found.words words) _ _ got;
       }
 
-  -- behind the need of a place, if it is one, what is read there is known from then on
-  pub sourced : (n : ℕ) (D : Run C) (t : Target) (found : Found) → found_at env t ≡ Some found → (p q : ℕ) (ws : List ℤ) (fs : List (Flow Held)) (vs : List Held) → VarsFit C vs → From (text C) p (need_of true (Some found) p) q
-      → found.offset + found.words ≤ words_of_base env found.slot
-      → ((m : ℕ) → m ≤ n → (E : Run C) → Later C D E → ((F : Run C) → Later C E F → Source F vs found) → At C m E q ws fs vs) → At C n D p ws fs vs
-  sourced n D t found is p q ws fs vs fit from fits h = by_slot found.slot refl from fits h where
-    by_slot : (slot : Option Slot) → found.slot ≡ slot → From (text C) p (need_of true (Some (record found { slot = slot })) p) q → found.offset + found.words ≤ words_of_base env slot
-        → ((m : ℕ) → m ≤ n → (E : Run C) → Later C D E → ((F : Run C) → Later C E F → Source F vs (record found { slot = slot })) → At C m E q ws fs vs) → At C n D p ws fs vs
-    by_slot None none from fits h = moved n D ws fs vs from (h n (omega arith) D (later_same C D) (λ F later. of_state F vs t found is none fits))
-    by_slot (Some slot) some from fits h =
-        let held = variable vs fit slot (slot_is env t found slot is some) in
-        needs n D p q ws fs vs slot.number held.0 held.1 from.0 from.1
-        (λ m le E later words known.
+  -- behind the use of a place what is read there is known from then on
+  pub sourced : (n : ℕ) (D : Run C) (id : ℕ) (t : Target) (found : Found) → found_at env t ≡ Some found → (p q : ℕ) (ws : List ℤ) (fs : List (Flow Held)) (vs : List Held) (rest : Ways) → Here D vs (ways.Then (uses id (plain.found_at around t)) rest)
+      → From (text C) p (need_of (env.marks id) (Some found) p) q → found.offset + found.words ≤ words_of_base env found.slot
+      → ((m : ℕ) → m ≤ n → (E : Run C) → Later C D E → ((F : Run C) → Later C E F → Source F vs found) → Here E vs rest → At C m E q ws fs vs) → At C n D p ws fs vs
+  sourced n D id t found is p q ws fs vs rest a from fits h = by_found (plain.found_at around t) (subst (SameFound env.scope (plain.found_at around t)) is (found_same env t)) a where
+    no_need : (b : Bool) → From (text C) p (where_marked b no_code p) q → p ≡ q
+    no_need true from = from
+    no_need false from = from
+
+    by_slot : (seen : Option plain.Slot) (slot : Option Slot) → SameSlot env.scope seen slot → found.slot ≡ slot → Here D vs (ways.Then (forces id seen) rest) → From (text C) p (need_of (env.marks id) (Some (record found { slot = slot })) p) q
+        → found.offset + found.words ≤ words_of_base env slot
+        → ((m : ℕ) → m ≤ n → (E : Run C) → Later C D E → ((F : Run C) → Later C E F → Source F vs (record found { slot = slot })) → Here E vs rest → At C m E q ws fs vs) → At C n D p ws fs vs
+    by_slot None None same none a from fits h =
+        moved n D ws fs vs (no_need (env.marks id) from)
+        (h n (omega arith) D (later_same C D) (λ F later. of_state F vs t found is none fits) (ahead_skip C env.marks env.scope D vs rest a))
+    by_slot None (Some slot) same some a from fits h = absurd same
+    by_slot (Some seen) None same none a from fits h = absurd same
+    by_slot (Some seen) (Some slot) same some a from fits h =
+        let held = variable vs a.fit slot (slot_is env t found slot is some) in
+        uses_slot n D p q ws fs vs id seen.number slot held.0 rest held.1 same.0 a from
+        (λ m le E later words known ahead.
         let long = known_long C E (words_of_shape env.declarations slot.shape) held.0 words held.2 known in
-        h m le E later (λ F after. of_variable F vs found slot held.0 words held.1 (still_known C E F held.0 words after known) (omega (arith, long, fits))))
+        h m le E later (λ F after. of_variable F vs found slot held.0 words held.1 (still_known C E F held.0 words after known) (omega (arith, long, fits))) ahead)
+
+    by_found : (seen : Option plain.Found) → SameFound env.scope seen (Some found) → Here D vs (ways.Then (uses id seen) rest) → At C n D p ws fs vs
+    by_found None same a = absurd same
+    by_found (Some seen) same a = by_slot seen.slot found.slot same.slot refl a from fits h
 
   -- ---- places that are read
 
-  pub marked_code : (id : ℕ) (o : Option Found) (p q : ℕ) → From (text C) p (read_code (env.marks id) o p) q → From (text C) p (read_code true o p) q
-  marked_code id o p q = subst (λ b. From (text C) p (read_code b o p) q) (marked id)
-
-  pub reads_place : (n : ℕ) (D : Run C) (t : Target) (o : Option Found) → found_at env t ≡ o → (p q : ℕ) (ws : List ℤ) (fs : List (Flow Held)) (vs : List Held) → From (text C) p (read_code true o p) q → PlaceFits env o → VarsFit C vs
-      → ThenWords C n D q ws fs vs (words_of_found o) → At C n D p ws fs vs
-  reads_place n D t None is p q ws fs vs from fits fit h = absurd fits
-  reads_place n D t (Some found) is p q ws fs vs from fits fit h =
-      let parts = from_joined (text C) (need_of true (Some found)) (one (load_from found found.slot)) p q from in
-      sourced n D t found is p parts.middle ws fs vs fit parts.first fits
-      (λ m le E later source.
+  pub reads_place : (n : ℕ) (D : Run C) (id : ℕ) (t : Target) (o : Option Found) → found_at env t ≡ o → (p q : ℕ) (ws : List ℤ) (fs : List (Flow Held)) (vs : List Held) (rest : Ways) → From (text C) p (read_code (env.marks id) o p) q → PlaceFits env o
+      → Here D vs (ways.Then (uses id (plain.found_at around t)) rest) → BehindWords C env.marks env.scope n D q ws fs vs (words_of_found o) rest → At C n D p ws fs vs
+  reads_place n D id t None is p q ws fs vs rest from fits a h = absurd fits
+  reads_place n D id t (Some found) is p q ws fs vs rest from fits a h =
+      let parts = from_joined (text C) (need_of (env.marks id) (Some found)) (one (load_from found found.slot)) p q from in
+      sourced n D id t found is p parts.middle ws fs vs rest a parts.first fits
+      (λ m le E later source ahead.
       let here = source E (later_same C E) in
       let words = words_at found.offset found.words here.base in
       let next : parts.middle + 1 ≡ q = parts.second.1 in
       performs C m E parts.middle ws fs vs (load_from found found.slot) (frames.Goes (frame C E (parts.middle + 1) (pushed words ws) fs vs)) parts.second.0 (here.loads parts.middle ws fs)
-      (λ j less. moved j E (pushed words ws) fs vs next (h j (omega (arith, le, less)) E later words (words_at_long found.offset found.words here.base here.inside))))
+      (λ j less. moved j E (pushed words ws) fs vs next (h j (omega (arith, le, less)) E later words (words_at_long found.offset found.words here.base here.inside) ahead)))
 
   indexes : (n : ℕ) (E : Run C) (vs : List Held) (line : ℕ) (found : Found) (here : Source E vs found) (m q : ℕ) (ws : List ℤ) (i : ℤ) (fs : List (Flow Held)) → Is C m (element_from line found found.slot) → m + 1 ≡ q
       → ThenWord C n E q ws fs vs → At C n E m (i ∷ ws) fs vs
@@ -249,60 +305,71 @@ module _ (C : Scene) (may : May) (env : Env) (marked : (id : ℕ) → env.marks 
   -- ---- expressions
 
   abbrev pub Follows : Expr → Type 0
-  Follows t = (n : ℕ) → n ≤ N → (D : Run C) (p q : ℕ) (ws : List ℤ) (fs : List (Flow Held)) (vs : List Held) → From (text C) p (value_code env t p) q → ((k : ℕ) → k ≤ q → is_place C.image C.code k ≡ true) → ExprFits may env t → VarsFit C vs
-      → ThenWords C n D q ws fs vs (words_of_expr env t) → At C n D p ws fs vs
+  Follows t = (n : ℕ) → n ≤ N → (D : Run C) (p q : ℕ) (ws : List ℤ) (fs : List (Flow Held)) (vs : List Held) → From (text C) p (value_code env t p) q → ((k : ℕ) → k ≤ q → is_place C.image C.code k ≡ true) → ExprFits may env t
+      → (rest : Ways) → Here D vs (ways.Then (value_ways around t) rest) → BehindWords C env.marks env.scope n D q ws fs vs (words_of_expr env t) rest → At C n D p ws fs vs
 
   -- one word of a value
-  pub one_of : (n : ℕ) (D : Run C) (q : ℕ) (ws : List ℤ) (fs : List (Flow Held)) (vs : List Held) (t : Expr) → words_of_expr env t ≡ 1 → ThenWord C n D q ws fs vs → ThenWords C n D q ws fs vs (words_of_expr env t)
-  one_of n D q ws fs vs t single h = words_by_word n D q ws fs vs (words_of_expr env t) single h
+  pub one_of : (n : ℕ) (D : Run C) (q : ℕ) (ws : List ℤ) (fs : List (Flow Held)) (vs : List Held) (t : Expr) (rest : Ways) → words_of_expr env t ≡ 1 → BehindWord C env.marks env.scope n D q ws fs vs rest → BehindWords C env.marks env.scope n D q ws fs vs (words_of_expr env t) rest
+  one_of n D q ws fs vs t rest single h m le E later words long a =
+      subst (λ (words : List ℤ). At C m E q (pushed words ws) fs vs) (sym (one_word words (long ∙ single))) (h m le E later (first_word words) a)
 
-  pub word_of_words : (n : ℕ) (D : Run C) (q : ℕ) (ws : List ℤ) (fs : List (Flow Held)) (vs : List Held) → ThenWords C n D q ws fs vs 1 → ThenWord C n D q ws fs vs
-  word_of_words n D q ws fs vs h m le E later w = h m le E later (w ∷ []) refl
+  pub word_of_words : (n : ℕ) (D : Run C) (q : ℕ) (ws : List ℤ) (fs : List (Flow Held)) (vs : List Held) (rest : Ways) → BehindWords C env.marks env.scope n D q ws fs vs 1 rest → BehindWord C env.marks env.scope n D q ws fs vs rest
+  word_of_words n D q ws fs vs rest h m le E later w a = h m le E later (w ∷ []) refl a
 
-  element_follows : (line : ℕ) (t : Target) (o : Option Found) → found_at env t ≡ o → (index : Expr) → Follows index → (n : ℕ) → n ≤ N → (D : Run C) (p q : ℕ) (ws : List ℤ) (fs : List (Flow Held)) (vs : List Held)
-      → From (text C) p (joined (need_of true o) (joined (value_code env index) (element_of line o)) p) q → Upto q → PlaceFits env o → ExprFits may env index → words_of_expr env index ≡ 1 → VarsFit C vs → ThenWord C n D q ws fs vs → At C n D p ws fs vs
-  element_follows line t None is index on_index n few D p q ws fs vs from up fits index_fits single fit h = absurd fits
-  element_follows line t (Some found) is index on_index n few D p q ws fs vs from up fits index_fits single fit h =
-      let first = from_joined (text C) (need_of true (Some found)) (joined (value_code env index) (one (element_from line found found.slot))) p q from in
+  -- where nothing comes before the rest
+  skipped : (D : Run C) (vs : List Held) (rest : Ways) → Here D vs (ways.Then ways.NoEvent rest) → Here D vs rest
+  skipped = ahead_skip C env.marks env.scope
+
+  in_turn : (D : Run C) (vs : List Held) (first second rest : Ways) → Here D vs (ways.Then (ways.Then first second) rest) → Here D vs (ways.Then first (ways.Then second rest))
+  in_turn = ahead_in_turn C env.marks env.scope
+
+  element_follows : (line id : ℕ) (t : Target) (o : Option Found) → found_at env t ≡ o → (index : Expr) → Follows index → (n : ℕ) → n ≤ N → (D : Run C) (p q : ℕ) (ws : List ℤ) (fs : List (Flow Held)) (vs : List Held) (rest : Ways)
+      → From (text C) p (joined (need_of (env.marks id) o) (joined (value_code env index) (element_of line o)) p) q → Upto q → PlaceFits env o → ExprFits may env index → words_of_expr env index ≡ 1
+      → Here D vs (ways.Then (ways.Then (uses id (plain.found_at around t)) (value_ways around index)) rest) → BehindWord C env.marks env.scope n D q ws fs vs rest → At C n D p ws fs vs
+  element_follows line id t None is index on_index n few D p q ws fs vs rest from up fits index_fits single a h = absurd fits
+  element_follows line id t (Some found) is index on_index n few D p q ws fs vs rest from up fits index_fits single a h =
+      let first = from_joined (text C) (need_of (env.marks id) (Some found)) (joined (value_code env index) (one (element_from line found found.slot))) p q from in
       let second = from_joined (text C) (value_code env index) (one (element_from line found found.slot)) first.middle q first.second in
-      sourced n D t found is p first.middle ws fs vs fit first.first fits
-      (λ m le E later source.
-      on_index m (omega (arith, le, few)) E first.middle second.middle ws fs vs second.first (upto_before q second.middle second.within up) index_fits fit
-      (one_of m E second.middle ws fs vs index single
-      (λ j less F after i.
+      sourced n D id t found is p first.middle ws fs vs (ways.Then (value_ways around index) rest) (in_turn D vs (uses id (plain.found_at around t)) (value_ways around index) rest a) first.first fits
+      (λ m le E later source ahead.
+      on_index m (omega (arith, le, few)) E first.middle second.middle ws fs vs second.first (upto_before q second.middle second.within up) index_fits rest ahead
+      (one_of m E second.middle ws fs vs index rest single
+      (λ j less F after i b.
       indexes j F vs line found (source F after) second.middle q ws i fs second.second.0 second.second.1
-      (λ k under H more w. h k (omega (arith, le, less, under)) H (later_then C D F H (later_then C D E F later after) more) w))))
+      (onward_word j F q ws fs vs rest (λ k under H more w c. h k (omega (arith, le, less, under)) H (later_then C D F H (later_then C D E F later after) more) w c) b))))
 
-  operands_follow : (left right : Expr) → Follows left → Follows right → (i : Instr) (n : ℕ) → n ≤ N → (D : Run C) (p q : ℕ) (ws : List ℤ) (fs : List (Flow Held)) (vs : List Held)
-      → From (text C) p (both_code (value_code env left) (value_code env right) i p) q → Upto q → ExprFits may env left → words_of_expr env left ≡ 1 → ExprFits may env right → words_of_expr env right ≡ 1 → VarsFit C vs
-      → ((m : ℕ) (E : Run C) (p1 : ℕ) (a b : ℤ) → Is C p1 i → p1 + 1 ≡ q → ThenWord C m E q ws fs vs → At C m E p1 (b ∷ a ∷ ws) fs vs) → ThenWord C n D q ws fs vs → At C n D p ws fs vs
-  operands_follow left right on_left on_right i n few D p q ws fs vs from up left_fits left_one right_fits right_one fit ends h =
+  operands_follow : (left right : Expr) → Follows left → Follows right → (i : Instr) (n : ℕ) → n ≤ N → (D : Run C) (p q : ℕ) (ws : List ℤ) (fs : List (Flow Held)) (vs : List Held) (rest : Ways)
+      → From (text C) p (both_code (value_code env left) (value_code env right) i p) q → Upto q → ExprFits may env left → words_of_expr env left ≡ 1 → ExprFits may env right → words_of_expr env right ≡ 1
+      → Here D vs (ways.Then (ways.Then (value_ways around left) (value_ways around right)) rest)
+      → ((m : ℕ) (E : Run C) (p1 : ℕ) (a b : ℤ) → Is C p1 i → p1 + 1 ≡ q → ThenWord C m E q ws fs vs → At C m E p1 (b ∷ a ∷ ws) fs vs) → BehindWord C env.marks env.scope n D q ws fs vs rest → At C n D p ws fs vs
+  operands_follow left right on_left on_right i n few D p q ws fs vs rest from up left_fits left_one right_fits right_one ahead ends h =
       let first = from_joined (text C) (value_code env left) (followed_by (value_code env right) i) p q from in
       let second = from_followed (text C) (value_code env right) i first.middle q first.second in
-      on_left n few D p first.middle ws fs vs first.first (upto_before q first.middle first.within up) left_fits fit
-      (one_of n D first.middle ws fs vs left left_one
-      (λ m le E later a.
-      on_right m (omega (arith, le, few)) E first.middle second.middle (a ∷ ws) fs vs second.first (upto_before q second.middle second.within up) right_fits fit
-      (one_of m E second.middle (a ∷ ws) fs vs right right_one
-      (λ j less F after b.
-      ends j F second.middle a b second.is second.next (λ k under H more w. h k (omega (arith, le, less, under)) H (later_then C D F H (later_then C D E F later after) more) w)))))
+      on_left n few D p first.middle ws fs vs first.first (upto_before q first.middle first.within up) left_fits (ways.Then (value_ways around right) rest) (in_turn D vs (value_ways around left) (value_ways around right) rest ahead)
+      (one_of n D first.middle ws fs vs left (ways.Then (value_ways around right) rest) left_one
+      (λ m le E later a ahead.
+      on_right m (omega (arith, le, few)) E first.middle second.middle (a ∷ ws) fs vs second.first (upto_before q second.middle second.within up) right_fits rest ahead
+      (one_of m E second.middle (a ∷ ws) fs vs right rest right_one
+      (λ j less F after b ahead.
+      ends j F second.middle a b second.is second.next
+      (onward_word j F q ws fs vs rest (λ k under H more w c. h k (omega (arith, le, less, under)) H (later_then C D F H (later_then C D E F later after) more) w c) ahead)))))
 
   -- either way comes to the same place
-  either_follows : (left : Expr) → Follows left → (first second : Piece) (n : ℕ) → n ≤ N → (D : Run C) (p q : ℕ) (ws : List ℤ) (fs : List (Flow Held)) (vs : List Held)
-      → From (text C) p (joined (value_code env left) (either first second) p) q → Upto q → ExprFits may env left → words_of_expr env left ≡ 1 → VarsFit C vs
-      → ((m : ℕ) → m ≤ N → (E : Run C) (a b : ℕ) → From (text C) a (first a) b → Upto b → ThenWord C m E b ws fs vs → At C m E a ws fs vs)
-      → ((m : ℕ) → m ≤ N → (E : Run C) (a b : ℕ) → From (text C) a (second a) b → Upto b → ThenWord C m E b ws fs vs → At C m E a ws fs vs)
-      → ThenWord C n D q ws fs vs → At C n D p ws fs vs
-  either_follows left on_left first second n few D p q ws fs vs from up fits single fit one_way other_way h =
+  either_follows : (left : Expr) → Follows left → (first second : Piece) (mid : Ways) (n : ℕ) → n ≤ N → (D : Run C) (p q : ℕ) (ws : List ℤ) (fs : List (Flow Held)) (vs : List Held) (rest : Ways)
+      → From (text C) p (joined (value_code env left) (either first second) p) q → Upto q → ExprFits may env left → words_of_expr env left ≡ 1 → Here D vs (ways.Then (ways.Then (value_ways around left) mid) rest)
+      → ((m : ℕ) → m ≤ N → (E : Run C) (a b : ℕ) → From (text C) a (first a) b → Upto b → Here E vs (ways.Then mid rest) → BehindWord C env.marks env.scope m E b ws fs vs rest → At C m E a ws fs vs)
+      → ((m : ℕ) → m ≤ N → (E : Run C) (a b : ℕ) → From (text C) a (second a) b → Upto b → Here E vs (ways.Then mid rest) → BehindWord C env.marks env.scope m E b ws fs vs rest → At C m E a ws fs vs)
+      → BehindWord C env.marks env.scope n D q ws fs vs rest → At C n D p ws fs vs
+  either_follows left on_left first second mid n few D p q ws fs vs rest from up fits single ahead one_way other_way h =
       let parts = from_joined (text C) (value_code env left) (either first second) p q from in
       let ways = from_either (text C) first second parts.middle q parts.second in
-      on_left n few D p parts.middle ws fs vs parts.first (upto_before q parts.middle parts.within up) fits fit
-      (one_of n D parts.middle ws fs vs left single
-      (λ m le E later a.
+      on_left n few D p parts.middle ws fs vs parts.first (upto_before q parts.middle parts.within up) fits (Rattle.mpl_mean.specs.Pending.Paths.Then mid rest) (in_turn D vs (value_ways around left) mid rest ahead)
+      (one_of n D parts.middle ws fs vs left (Rattle.mpl_mean.specs.Pending.Paths.Then mid rest) single
+      (λ m le E later a ahead.
       jumps_by m E parts.middle ways.other ws a fs vs ways.test (up ways.other ways.other_within)
-      (λ j less. other_way j (omega (arith, le, less, few)) E ways.other q ways.other_way up (λ k under F after w. h k (omega (arith, le, less, under)) F (later_then C D E F later after) w))
-      (λ j less. one_way j (omega (arith, le, less, few)) E (parts.middle + 1) ways.back ways.one_way (upto_before q ways.back ways.back_within up)
-      (λ k under F after w. jumps k F ways.back q (w ∷ ws) fs vs ways.jump (up q (omega arith)) (λ i above. h i (omega (arith, le, less, under, above)) F (later_then C D E F later after) w)))))
+      (λ j less. other_way j (omega (arith, le, less, few)) E ways.other q ways.other_way up ahead (λ k under F after w c. h k (omega (arith, le, less, under)) F (later_then C D E F later after) w c))
+      (λ j less. one_way j (omega (arith, le, less, few)) E (parts.middle + 1) ways.back ways.one_way (upto_before q ways.back ways.back_within up) ahead
+      (λ k under F after w c. jumps k F ways.back q (w ∷ ws) fs vs ways.jump (up q (omega arith)) (λ i above. h i (omega (arith, le, less, under, above)) F (later_then C D E F later after) w c)))))
 
   pushed_follows : (b : Bool) (m : ℕ) → m ≤ N → (E : Run C) (a q : ℕ) (ws : List ℤ) (fs : List (Flow Held)) (vs : List Held) → From (text C) a (one (instr.Push (bool_word b)) a) q → ThenWord C m E q ws fs vs → At C m E a ws fs vs
   pushed_follows b m few E a q ws fs vs from h = pushes m E a q ws fs vs (bool_word b) from.0 from.1 h
@@ -320,38 +387,47 @@ module _ (C : Scene) (may : May) (env : Env) (marked : (id : ℕ) → env.marks 
   abbrev Fits_both : Expr → Expr → Type 0
   Fits_both left right = ExprFits may env left × (words_of_expr env left ≡ 1) × ExprFits may env right × (words_of_expr env right ≡ 1)
 
-  binary_follows : (line : ℕ) (o : BinaryOperator) (left right : Expr) → Follows left → Follows right → (n : ℕ) → n ≤ N → (D : Run C) (p q : ℕ) (ws : List ℤ) (fs : List (Flow Held)) (vs : List Held)
-      → From (text C) p (binary_code line o (value_code env left) (value_code env right) p) q → Upto q → Fits_both left right → VarsFit C vs → ThenWord C n D q ws fs vs → At C n D p ws fs vs
-  binary_follows line Or left right on_left on_right n few D p q ws fs vs from up fits fit h =
-      either_follows left on_left (one (instr.Push (bool_word true))) (value_code env right) n few D p q ws fs vs from up fits.0 fits.1 fit
-      (λ m few E a b from up h. pushed_follows true m few E a b ws fs vs from h)
-      (λ m few E a b from up h. on_right m few E a b ws fs vs from up fits.2 fit (one_of m E b ws fs vs right fits.3 h)) h
-  binary_follows line And left right on_left on_right n few D p q ws fs vs from up fits fit h =
-      either_follows left on_left (value_code env right) (one (instr.Push (bool_word false))) n few D p q ws fs vs from up fits.0 fits.1 fit
-      (λ m few E a b from up h. on_right m few E a b ws fs vs from up fits.2 fit (one_of m E b ws fs vs right fits.3 h))
-      (λ m few E a b from up h. pushed_follows false m few E a b ws fs vs from h) h
-  binary_follows line (Equate equality.Equal) left right on_left on_right n few D p q ws fs vs from up fits fit h =
-      operands_follow left right on_left on_right instr.Equal n few D p q ws fs vs from up fits.0 fits.1 fits.2 fits.3 fit (compared instr.Equal int_eq q ws fs vs (λ E p a b. refl)) h
-  binary_follows line (Equate equality.Unequal) left right on_left on_right n few D p q ws fs vs from up fits fit h =
-      operands_follow left right on_left on_right instr.NotEqual n few D p q ws fs vs from up fits.0 fits.1 fits.2 fits.3 fit (compared instr.NotEqual (λ a b. not (int_eq a b)) q ws fs vs (λ E p a b. refl)) h
-  binary_follows line (Compare relation.Less) left right on_left on_right n few D p q ws fs vs from up fits fit h =
-      operands_follow left right on_left on_right instr.Less n few D p q ws fs vs from up fits.0 fits.1 fits.2 fits.3 fit (compared instr.Less int_lt q ws fs vs (λ E p a b. refl)) h
-  binary_follows line (Compare relation.LessEqual) left right on_left on_right n few D p q ws fs vs from up fits fit h =
-      operands_follow left right on_left on_right instr.LessEqual n few D p q ws fs vs from up fits.0 fits.1 fits.2 fits.3 fit (compared instr.LessEqual int_le q ws fs vs (λ E p a b. refl)) h
-  binary_follows line (Compare relation.Greater) left right on_left on_right n few D p q ws fs vs from up fits fit h =
-      operands_follow left right on_left on_right instr.Greater n few D p q ws fs vs from up fits.0 fits.1 fits.2 fits.3 fit (compared instr.Greater (λ a b. int_lt b a) q ws fs vs (λ E p a b. refl)) h
-  binary_follows line (Compare relation.GreaterEqual) left right on_left on_right n few D p q ws fs vs from up fits fit h =
-      operands_follow left right on_left on_right instr.GreaterEqual n few D p q ws fs vs from up fits.0 fits.1 fits.2 fits.3 fit (compared instr.GreaterEqual (λ a b. int_le b a) q ws fs vs (λ E p a b. refl)) h
-  binary_follows line (Add sums.Plus) left right on_left on_right n few D p q ws fs vs from up fits fit h =
-      operands_follow left right on_left on_right (instr.Add line) n few D p q ws fs vs from up fits.0 fits.1 fits.2 fits.3 fit (calculated (instr.Add line) line arithmetic.sum q ws fs vs (λ E p a b. refl)) h
-  binary_follows line (Add sums.Minus) left right on_left on_right n few D p q ws fs vs from up fits fit h =
-      operands_follow left right on_left on_right (instr.Sub line) n few D p q ws fs vs from up fits.0 fits.1 fits.2 fits.3 fit (calculated (instr.Sub line) line arithmetic.difference q ws fs vs (λ E p a b. refl)) h
-  binary_follows line (Multiply term.Times) left right on_left on_right n few D p q ws fs vs from up fits fit h =
-      operands_follow left right on_left on_right (instr.Mul line) n few D p q ws fs vs from up fits.0 fits.1 fits.2 fits.3 fit (calculated (instr.Mul line) line arithmetic.product q ws fs vs (λ E p a b. refl)) h
-  binary_follows line (Multiply term.Over) left right on_left on_right n few D p q ws fs vs from up fits fit h =
-      operands_follow left right on_left on_right (instr.Div line) n few D p q ws fs vs from up fits.0 fits.1 fits.2 fits.3 fit (calculated (instr.Div line) line arithmetic.quotient q ws fs vs (λ E p a b. refl)) h
-  binary_follows line (Multiply term.Modulo) left right on_left on_right n few D p q ws fs vs from up fits fit h =
-      operands_follow left right on_left on_right (instr.Rem line) n few D p q ws fs vs from up fits.0 fits.1 fits.2 fits.3 fit (calculated (instr.Rem line) line arithmetic.remainder q ws fs vs (λ E p a b. refl)) h
+  -- the right operand, or not
+  with_right : (E : Run C) (vs : List Held) (right rest : Ways) → Here E vs (ways.Then (ways.Either right ways.NoEvent) rest) → Here E vs (ways.Then right rest)
+  with_right E vs right rest a = ahead_by C env.marks env.scope E vs (ways.Then right rest) (ways.Then (ways.Either right ways.NoEvent) rest) (one_then right ways.NoEvent rest) a
+
+  without : (E : Run C) (vs : List Held) (right rest : Ways) → Here E vs (ways.Then (ways.Either right ways.NoEvent) rest) → Here E vs rest
+  without E vs right rest a =
+      skipped E vs rest (ahead_by C env.marks env.scope E vs (ways.Then ways.NoEvent rest) (ways.Then (ways.Either right ways.NoEvent) rest) (other_then right ways.NoEvent rest) a)
+
+  binary_follows : (line : ℕ) (o : BinaryOperator) (left right : Expr) → Follows left → Follows right → (n : ℕ) → n ≤ N → (D : Run C) (p q : ℕ) (ws : List ℤ) (fs : List (Flow Held)) (vs : List Held) (rest : Ways)
+      → From (text C) p (binary_code line o (value_code env left) (value_code env right) p) q → Upto q → Fits_both left right → Here D vs (ways.Then (binary_ways o (value_ways around left) (value_ways around right)) rest)
+      → BehindWord C env.marks env.scope n D q ws fs vs rest → At C n D p ws fs vs
+  binary_follows line Or left right on_left on_right n few D p q ws fs vs rest from up fits a h =
+      either_follows left on_left (one (instr.Push (bool_word true))) (value_code env right) (ways.Either (value_ways around right) ways.NoEvent) n few D p q ws fs vs rest from up fits.0 fits.1 a
+      (λ m few E a b from up ahead h. pushed_follows true m few E a b ws fs vs from (onward_word m E b ws fs vs rest h (without E vs (value_ways around right) rest ahead)))
+      (λ m few E a b from up ahead h. on_right m few E a b ws fs vs from up fits.2 rest (with_right E vs (value_ways around right) rest ahead) (one_of m E b ws fs vs right rest fits.3 h)) h
+  binary_follows line And left right on_left on_right n few D p q ws fs vs rest from up fits a h =
+      either_follows left on_left (value_code env right) (one (instr.Push (bool_word false))) (ways.Either (value_ways around right) ways.NoEvent) n few D p q ws fs vs rest from up fits.0 fits.1 a
+      (λ m few E a b from up ahead h. on_right m few E a b ws fs vs from up fits.2 rest (with_right E vs (value_ways around right) rest ahead) (one_of m E b ws fs vs right rest fits.3 h))
+      (λ m few E a b from up ahead h. pushed_follows false m few E a b ws fs vs from (onward_word m E b ws fs vs rest h (without E vs (value_ways around right) rest ahead))) h
+  binary_follows line (Equate equality.Equal) left right on_left on_right n few D p q ws fs vs rest from up fits a h =
+      operands_follow left right on_left on_right instr.Equal n few D p q ws fs vs rest from up fits.0 fits.1 fits.2 fits.3 a (compared instr.Equal int_eq q ws fs vs (λ E p a b. refl)) h
+  binary_follows line (Equate equality.Unequal) left right on_left on_right n few D p q ws fs vs rest from up fits a h =
+      operands_follow left right on_left on_right instr.NotEqual n few D p q ws fs vs rest from up fits.0 fits.1 fits.2 fits.3 a (compared instr.NotEqual (λ a b. not (int_eq a b)) q ws fs vs (λ E p a b. refl)) h
+  binary_follows line (Compare relation.Less) left right on_left on_right n few D p q ws fs vs rest from up fits a h =
+      operands_follow left right on_left on_right instr.Less n few D p q ws fs vs rest from up fits.0 fits.1 fits.2 fits.3 a (compared instr.Less int_lt q ws fs vs (λ E p a b. refl)) h
+  binary_follows line (Compare relation.LessEqual) left right on_left on_right n few D p q ws fs vs rest from up fits a h =
+      operands_follow left right on_left on_right instr.LessEqual n few D p q ws fs vs rest from up fits.0 fits.1 fits.2 fits.3 a (compared instr.LessEqual int_le q ws fs vs (λ E p a b. refl)) h
+  binary_follows line (Compare relation.Greater) left right on_left on_right n few D p q ws fs vs rest from up fits a h =
+      operands_follow left right on_left on_right instr.Greater n few D p q ws fs vs rest from up fits.0 fits.1 fits.2 fits.3 a (compared instr.Greater (λ a b. int_lt b a) q ws fs vs (λ E p a b. refl)) h
+  binary_follows line (Compare relation.GreaterEqual) left right on_left on_right n few D p q ws fs vs rest from up fits a h =
+      operands_follow left right on_left on_right instr.GreaterEqual n few D p q ws fs vs rest from up fits.0 fits.1 fits.2 fits.3 a (compared instr.GreaterEqual (λ a b. int_le b a) q ws fs vs (λ E p a b. refl)) h
+  binary_follows line (Add sums.Plus) left right on_left on_right n few D p q ws fs vs rest from up fits a h =
+      operands_follow left right on_left on_right (instr.Add line) n few D p q ws fs vs rest from up fits.0 fits.1 fits.2 fits.3 a (calculated (instr.Add line) line arithmetic.sum q ws fs vs (λ E p a b. refl)) h
+  binary_follows line (Add sums.Minus) left right on_left on_right n few D p q ws fs vs rest from up fits a h =
+      operands_follow left right on_left on_right (instr.Sub line) n few D p q ws fs vs rest from up fits.0 fits.1 fits.2 fits.3 a (calculated (instr.Sub line) line arithmetic.difference q ws fs vs (λ E p a b. refl)) h
+  binary_follows line (Multiply term.Times) left right on_left on_right n few D p q ws fs vs rest from up fits a h =
+      operands_follow left right on_left on_right (instr.Mul line) n few D p q ws fs vs rest from up fits.0 fits.1 fits.2 fits.3 a (calculated (instr.Mul line) line arithmetic.product q ws fs vs (λ E p a b. refl)) h
+  binary_follows line (Multiply term.Over) left right on_left on_right n few D p q ws fs vs rest from up fits a h =
+      operands_follow left right on_left on_right (instr.Div line) n few D p q ws fs vs rest from up fits.0 fits.1 fits.2 fits.3 a (calculated (instr.Div line) line arithmetic.quotient q ws fs vs (λ E p a b. refl)) h
+  binary_follows line (Multiply term.Modulo) left right on_left on_right n few D p q ws fs vs rest from up fits a h =
+      operands_follow left right on_left on_right (instr.Rem line) n few D p q ws fs vs rest from up fits.0 fits.1 fits.2 fits.3 a (calculated (instr.Rem line) line arithmetic.remainder q ws fs vs (λ E p a b. refl)) h
 
   unary_ends : (line : ℕ) (o : UnaryOperator) (m : ℕ) (E : Run C) (p1 q : ℕ) (ws : List ℤ) (fs : List (Flow Held)) (vs : List Held) (a : ℤ) → Is C p1 (unary_instr line o) → p1 + 1 ≡ q → ThenWord C m E q ws fs vs → At C m E p1 (a ∷ ws) fs vs
   unary_ends line unary.Negative m E p1 q ws fs vs a is next h = computes m E p1 q (a ∷ ws) ws fs vs (instr.Neg line) line (arithmetic.negation a) is next refl h
@@ -368,60 +444,64 @@ module _ (C : Scene) (may : May) (env : Env) (marked : (id : ℕ) → env.marks 
         rest : Run C
         rest = record { calls = D.calls; knows = D.knows; good = D.good; state = D.state; is_long = D.is_long; input = zs; lines = D.lines; replied = D.replied }
 
+  -- a word that comes with no event
+  plainly : (n : ℕ) (D : Run C) (q : ℕ) (ws : List ℤ) (fs : List (Flow Held)) (vs : List Held) (rest : Ways) → BehindWords C env.marks env.scope n D q ws fs vs 1 rest → Here D vs (ways.Then ways.NoEvent rest) → ThenWord C n D q ws fs vs
+  plainly n D q ws fs vs rest h a = onward_word n D q ws fs vs rest (word_of_words n D q ws fs vs rest h) (skipped D vs rest a)
+
   -- what a plain function takes: one value after another
   abbrev pub ValuesFollow : Exprs → Type 0
   ValuesFollow ts = (formals : List Formal) (n : ℕ) → n ≤ N → (D : Run C) (p q : ℕ) (ws : List ℤ) (fs : List (Flow Held)) (vs : List Held) → From (text C) p (values_code (codes_of_each env ts) p) q
-      → ((k : ℕ) → k ≤ q → is_place C.image C.code k ≡ true) → ValuesFit may env formals ts → VarsFit C vs → ThenWords C n D q ws fs vs (sum (map (words_of_formal env.declarations) formals)) → At C n D p ws fs vs
+      → ((k : ℕ) → k ≤ q → is_place C.image C.code k ≡ true) → ValuesFit may env formals ts → (rest : Ways) → Here D vs (ways.Then (values_ways around ts) rest)
+      → BehindWords C env.marks env.scope n D q ws fs vs (sum (map (words_of_formal env.declarations) formals)) rest → At C n D p ws fs vs
 
   mutual
     pub expr_follows : (t : Expr) → Follows t
-    expr_follows (e.Number at z) n few D p q ws fs vs from up fits fit h = pushes n D p q ws fs vs z from.0 from.1 (word_of_words n D q ws fs vs h)
-    expr_follows (e.Truth at b) n few D p q ws fs vs from up fits fit h = pushes n D p q ws fs vs (bool_word b) from.0 from.1 (word_of_words n D q ws fs vs h)
-    expr_follows (e.Own at) n few D p q ws fs vs from up fits fit h =
-        compares n D p q ws ws fs vs instr.Own C.object from.0 from.1 (true_is (has_object C.image C.code) _ (allowed.own fits)) (word_of_words n D q ws fs vs h)
-    expr_follows (e.Input at) n few D p q ws fs vs from up fits fit h = inputs n D p q ws fs vs at.line D.input refl fits from.0 from.1 (word_of_words n D q ws fs vs h)
-    expr_follows (e.Whole at target) n few D p q ws fs vs from up fits fit h =
-        reads_place n D target (found_at env target) refl p q ws fs vs
-        (marked_code at.id (found_at env target) p q
+    expr_follows (e.Number at z) n few D p q ws fs vs from up fits rest a h = pushes n D p q ws fs vs z from.0 from.1 (plainly n D q ws fs vs rest h a)
+    expr_follows (e.Truth at b) n few D p q ws fs vs from up fits rest a h = pushes n D p q ws fs vs (bool_word b) from.0 from.1 (plainly n D q ws fs vs rest h a)
+    expr_follows (e.Own at) n few D p q ws fs vs from up fits rest a h =
+        compares n D p q ws ws fs vs instr.Own C.object from.0 from.1 (true_is (has_object C.image C.code) _ (allowed.own fits)) (plainly n D q ws fs vs rest h a)
+    expr_follows (e.Input at) n few D p q ws fs vs from up fits rest a h = inputs n D p q ws fs vs at.line D.input refl fits from.0 from.1 (plainly n D q ws fs vs rest h a)
+    expr_follows (e.Whole at target) n few D p q ws fs vs from up fits rest a h =
+        reads_place n D at.id target (found_at env target) refl p q ws fs vs rest
         (subst (λ (piece : Piece). From (text C) p (piece p) q)
-        (place_value (whole_slot env (name_of_target target)) (words_of_expr env (e.Whole at target)) (read_code (env.marks at.id) (found_at env target))) from)) fits fit h
-    expr_follows (e.Element at line target index) n few D p q ws fs vs from up fits fit h =
-        element_follows line target (found_at env target) refl index (expr_follows index) n few D p q ws fs vs
-        (subst (λ b. From (text C) p (joined (need_of b (found_at env target)) (joined (value_code env index) (element_of line (found_at env target))) p) q) (marked at.id) from) up fits.0 fits.1 fits.2 fit (word_of_words n D q ws fs vs h)
-    expr_follows (e.PlainCall at function arguments) n few D p q ws fs vs from up fits fit h =
+        (place_value (whole_slot env (name_of_target target)) (words_of_expr env (e.Whole at target)) (read_code (env.marks at.id) (found_at env target))) from) fits a h
+    expr_follows (e.Element at line target index) n few D p q ws fs vs from up fits rest a h =
+        element_follows line at.id target (found_at env target) refl index (expr_follows index) n few D p q ws fs vs rest from up fits.0 fits.1 fits.2 a (word_of_words n D q ws fs vs rest h)
+    expr_follows (e.PlainCall at function arguments) n few D p q ws fs vs from up fits rest a h =
         let f = fits.0 in
         let numbered = function_numbered env.declarations function.text f fits.1 in
         let code : From (text C) p (plain_code (Some numbered.number) (values_code (codes_of_each env arguments)) p) q =
         subst (λ (n : Option ℕ). From (text C) p (plain_code n (values_code (codes_of_each env arguments)) p) q) numbered.numbered from in
         let parts = from_followed (text C) (values_code (codes_of_each env arguments)) (instr.Call numbered.number) p q code in
-        values_follow arguments f.formals n few D p parts.middle ws fs vs parts.first (upto_before q parts.middle parts.within up) fits.2 fit
-        (λ m le E later words long.
+        values_follow arguments f.formals n few D p parts.middle ws fs vs parts.first (upto_before q parts.middle parts.within up) fits.2 rest a
+        (λ m le E later words long ahead.
         below m (omega (arith, le, few)) function.text f fits.1 numbered.number numbered.numbered E parts.middle words ws fs vs long parts.is
         (λ j less F after result result_long.
         moved j F (pushed result ws) fs vs parts.next
-        (h j (omega (arith, le, less)) F (later_then C D E F later after) result (result_long ∙ ap (words_of_function env.declarations) (sym (fits.1).named)))))
-    expr_follows (e.Parenthesized at t) n few D p q ws fs vs from up fits fit h = expr_follows t n few D p q ws fs vs from up fits fit h
-    expr_follows (e.Unary at line operator operand) n few D p q ws fs vs from up fits fit h =
+        (h j (omega (arith, le, less)) F (later_then C D E F later after) result (result_long ∙ ap (words_of_function env.declarations) (sym (fits.1).named)) (ahead_later C env.marks env.scope E F vs rest after ahead))))
+    expr_follows (e.Parenthesized at t) n few D p q ws fs vs from up fits rest a h = expr_follows t n few D p q ws fs vs from up fits rest a h
+    expr_follows (e.Unary at line operator operand) n few D p q ws fs vs from up fits rest a h =
         let parts = from_followed (text C) (value_code env operand) (unary_instr line operator) p q from in
-        expr_follows operand n few D p parts.middle ws fs vs parts.first (upto_before q parts.middle parts.within up) fits.0 fit
-        (one_of n D parts.middle ws fs vs operand fits.1
-        (λ m le E later a. unary_ends line operator m E parts.middle q ws fs vs a parts.is parts.next (λ j less F after w. h j (omega (arith, le, less)) F (later_then C D E F later after) (w ∷ []) refl)))
-    expr_follows (e.Binary at line operator left right) n few D p q ws fs vs from up fits fit h =
-        binary_follows line operator left right (expr_follows left) (expr_follows right) n few D p q ws fs vs from up (fits.0, fits.1, fits.2, fits.3) fit (word_of_words n D q ws fs vs h)
-    expr_follows (e.CallOnOwn at member arguments) n few D p q ws fs vs from up fits fit h = absurd fits
-    expr_follows (e.CallOnTarget at target member arguments) n few D p q ws fs vs from up fits fit h = absurd fits
+        expr_follows operand n few D p parts.middle ws fs vs parts.first (upto_before q parts.middle parts.within up) fits.0 rest a
+        (one_of n D parts.middle ws fs vs operand rest fits.1
+        (λ m le E later w ahead. unary_ends line operator m E parts.middle q ws fs vs w parts.is parts.next
+        (onward_word m E q ws fs vs rest (λ j less F after w c. h j (omega (arith, le, less)) F (later_then C D E F later after) (w ∷ []) refl c) ahead)))
+    expr_follows (e.Binary at line operator left right) n few D p q ws fs vs from up fits rest a h =
+        binary_follows line operator left right (expr_follows left) (expr_follows right) n few D p q ws fs vs rest from up (fits.0, fits.1, fits.2, fits.3) a (word_of_words n D q ws fs vs rest h)
+    expr_follows (e.CallOnOwn at member arguments) n few D p q ws fs vs from up fits rest a h = absurd fits
+    expr_follows (e.CallOnTarget at target member arguments) n few D p q ws fs vs from up fits rest a h = absurd fits
 
     pub values_follow : (ts : Exprs) → ValuesFollow ts
-    values_follow e.NoExpr [] n few D p q ws fs vs from up fits fit h = moved n D ws fs vs from (h n (omega arith) D (later_same C D) [] refl)
-    values_follow e.NoExpr (formal ∷ formals) n few D p q ws fs vs from up fits fit h = absurd fits
-    values_follow (e.MoreExprs t ts) [] n few D p q ws fs vs from up fits fit h = absurd fits
-    values_follow (e.MoreExprs t ts) (formal ∷ formals) n few D p q ws fs vs from up fits fit h =
+    values_follow e.NoExpr [] n few D p q ws fs vs from up fits rest a h = moved n D ws fs vs from (h n (omega arith) D (later_same C D) [] refl (skipped D vs rest a))
+    values_follow e.NoExpr (formal ∷ formals) n few D p q ws fs vs from up fits rest a h = absurd fits
+    values_follow (e.MoreExprs t ts) [] n few D p q ws fs vs from up fits rest a h = absurd fits
+    values_follow (e.MoreExprs t ts) (formal ∷ formals) n few D p q ws fs vs from up fits rest a h =
         let parts = from_joined (text C) (value_code env t) (values_code (codes_of_each env ts)) p q from in
-        expr_follows t n few D p parts.middle ws fs vs parts.first (upto_before q parts.middle parts.within up) fits.0 fit
-        (λ m le E later words long.
-        values_follow ts formals m (omega (arith, le, few)) E parts.middle q (pushed words ws) fs vs parts.second up fits.2 fit
-        (λ j less F after more more_long.
+        expr_follows t n few D p parts.middle ws fs vs parts.first (upto_before q parts.middle parts.within up) fits.0 (ways.Then (values_ways around ts) rest) (in_turn D vs (value_ways around t) (values_ways around ts) rest a)
+        (λ m le E later words long ahead.
+        values_follow ts formals m (omega (arith, le, few)) E parts.middle q (pushed words ws) fs vs parts.second up fits.2 rest ahead
+        (λ j less F after more more_long ahead.
         subst (λ (all : List ℤ). At C j F q all fs vs) (sym (pushed_both words more ws))
         (h j (omega (arith, le, less)) F (later_then C D E F later after) (words ++ more)
         (let one = length-append words more in let total = sum_by-cons (λ (n : ℕ). n) (words_of_formal env.declarations formal) (map (words_of_formal env.declarations) formals) in
-        let size : words_of_expr env t ≡ words_of_formal env.declarations formal = fits.1 in omega (arith, one, total, long, more_long, size)))))
+        let size : words_of_expr env t ≡ words_of_formal env.declarations formal = fits.1 in omega (arith, one, total, long, more_long, size)) ahead)))

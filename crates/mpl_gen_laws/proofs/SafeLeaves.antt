@@ -1,6 +1,9 @@
 -- Printing and returning is safe in a frame alone, where it is safe behind it.
 use Rattle.std.proofs.Common.{◌≡◌, ◌≤◌, ℕ, suc, ◌+◌, ◌==◌, true, List, [], ◌∷◌, ◌++◌, length, map, Some, ℤ, refl, ap, sym, subst, arith, ◌∙◌}
+use Rattle.std.proofs.lemmas.List.{length-append}
 use Rattle.mpl_value.specs.declared.known.TrapKind.TheVariants.{NoReply}
+use Rattle.mpl_mean.specs.Pending.BodyWays.{each_value, value_ways}
+use Rattle.mpl_mean.specs.Pending.Paths.{Ways, Then}
 use Rattle.mpl_mean.specs.Plain.Expr.{Expr}
 use Rattle.mpl_mean.proofs.Sizes.SizedClasses.{same_number}
 use Rattle.mdf_code.specs.Alone.{Held}
@@ -21,8 +24,10 @@ use Rattle.mpl_gen_code.proofs.Places.{from_joined}
 use Rattle.mpl_gen_code.proofs.Popping.{given_is, popped_pushed, pushed_both, true_is}
 use Rattle.mpl_gen_code.proofs.Reaching.{From}
 use Rattle.mpl_gen_laws.specs.SafeFrames.{Safe}
-use Rattle.mpl_gen_laws.proofs.SafeExpressions.{Called, InScope, MayIn, ThenWords, expr_follows, moved, upto_before}
-use Rattle.mpl_gen_laws.proofs.SafeSteps.{At, Is, Later, Onward, Run, Scene, VarsFit, frame, later_same, later_then, performs, text}
+use Rattle.mpl_gen_laws.proofs.Loosened.{plain_env}
+use Rattle.mpl_gen_laws.proofs.SafeAhead.{Ahead, ahead_in_turn, ahead_skip}
+use Rattle.mpl_gen_laws.proofs.SafeExpressions.{BehindWords, Called, InScope, MayIn, expr_follows, moved, upto_before}
+use Rattle.mpl_gen_laws.proofs.SafeSteps.{At, Is, Later, Onward, Run, Scene, frame, later_same, later_then, performs, text}
 
 -- ---- the caller of a plain function
 
@@ -80,16 +85,17 @@ module _ (C : Scene) where
 
 -- ---- words that are printed
 
-module _ (C : Scene) (may : May) (env : Env) (marked : (id : ℕ) → env.marks id ≡ true) (scoped : InScope C env) (allowed : MayIn C may env.parts) (N : ℕ) (below : (m : ℕ) → m ≤ N → Called C env.declarations m) where
+module _ (C : Scene) (may : May) (env : Env) (scoped : InScope C env) (allowed : MayIn C may env.parts) (N : ℕ) (below : (m : ℕ) → m ≤ N → Called C env.declarations m) where
   pub each_follows : (ts : List Expr) (n : ℕ) → n ≤ N → (D : Run C) (p q : ℕ) (ws : List ℤ) (fs : List (Flow Held)) (vs : List Held) → From (text C) p (all_joined (map (value_code env) ts) p) q
-      → ((k : ℕ) → k ≤ q → is_place C.image C.code k ≡ true) → EachFits may env ts → VarsFit C vs → ThenWords C n D q ws fs vs (length ts) → At C n D p ws fs vs
-  each_follows [] n few D p q ws fs vs from up fits fit h = moved C may env marked scoped allowed N below n D ws fs vs from (h n (omega arith) D (later_same C D) [] refl)
-  each_follows (t ∷ ts) n few D p q ws fs vs from up fits fit h =
+      → ((k : ℕ) → k ≤ q → is_place C.image C.code k ≡ true) → EachFits may env ts → (rest : Ways) → Ahead C env.marks env.scope D vs (Then (each_value (plain_env env) ts) rest) → BehindWords C env.marks env.scope n D q ws fs vs (length ts) rest → At C n D p ws fs vs
+  each_follows [] n few D p q ws fs vs from up fits rest a h = moved C may env scoped allowed N below n D ws fs vs from (h n (omega arith) D (later_same C D) [] refl (ahead_skip C env.marks env.scope D vs rest a))
+  each_follows (t ∷ ts) n few D p q ws fs vs from up fits rest a h =
       let parts = from_joined (text C) (value_code env t) (all_joined (map (value_code env) ts)) p q from in
-      expr_follows C may env marked scoped allowed N below t n few D p parts.middle ws fs vs parts.first (upto_before C may env marked scoped allowed N below q parts.middle parts.within up) fits.0 fit
-      (λ m le E later words long.
-      each_follows ts m (omega (arith, le, few)) E parts.middle q (pushed words ws) fs vs parts.second up fits.2 fit
-      (λ j less F after more more_long.
+      expr_follows C may env scoped allowed N below t n few D p parts.middle ws fs vs parts.first (upto_before C may env scoped allowed N below q parts.middle parts.within up) fits.0 (Then (each_value (plain_env env) ts) rest)
+      (ahead_in_turn C env.marks env.scope D vs (value_ways (plain_env env) t) (each_value (plain_env env) ts) rest a)
+      (λ m le E later words long ahead.
+      each_follows ts m (omega (arith, le, few)) E parts.middle q (pushed words ws) fs vs parts.second up fits.2 rest ahead
+      (λ j less F after more more_long ahead.
       subst (λ (all : List ℤ). At C j F q all fs vs) (sym (pushed_both words more ws))
       (h j (omega (arith, le, less)) F (later_then C D E F later after) (words ++ more)
-      (let both = Rattle.std.proofs.lemmas.List.length-append words more in let single : words_of_expr env t ≡ 1 = fits.1 in let goal : length (words ++ more) ≡ suc (length ts) = omega (arith, both, long, single, more_long) in goal))))
+      (let both = length-append words more in let single : words_of_expr env t ≡ 1 = fits.1 in let goal : length (words ++ more) ≡ suc (length ts) = omega (arith, both, long, single, more_long) in goal) ahead)))

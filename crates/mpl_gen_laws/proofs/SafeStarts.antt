@@ -1,4 +1,5 @@
--- A body of a program whose uses are all marked is safe in a frame alone, from a start that fits.
+-- A body of a program whose uses are marked that may find a pending or a trapped result is safe in a frame alone, from a start
+-- that fits.
 use Rattle.std.proofs.Common.{◌≡◌, ◌≤◌, ℕ, ◌+◌, Bool, true, false, not, List, [], ◌∷◌, length, map, take, sum, Option, Some, None, if◌then◌else◌, ◌⊎◌, inl, inr, refl, ap, sym, subst, arith, ◌∙◌}
 use Rattle.std.proofs.lemmas.Bool.{lt-ltb}
 use Rattle.std.proofs.lemmas.List.Sums.{sum_by-cons}
@@ -14,9 +15,10 @@ use Rattle.mpl_value.specs.declared.body.MemberId.{MemberId}
 use Rattle.mpl_mean.specs.Laws.Sizes.{MemberFits, StartFits, WordsFit, member_of_id, words_of_formal, words_of_formals}
 use Rattle.mpl_mean.specs.Meaning.BodyMeaning.{member_of_classes}
 use Rattle.mpl_mean.specs.Meaning.Layout.{Class, Member, classes_of, function_named, parts_of, words_of_parts}
+use Rattle.mpl_mean.specs.Pending.MayBePending.{MayBePending}
 use Rattle.mpl_mean.specs.Plain.Stmt.{Stmts, stmts_of}
 use Rattle.mpl_mean.specs.TypeRules.Rules.{is_typed}
-use Rattle.mdf_code.specs.Alone.{Held, Words}
+use Rattle.mdf_code.specs.Alone.{Words}
 use Rattle.mdf_code.specs.Frames.{InMain, InMember}
 use Rattle.mdf_code.specs.Parts.{has_object, is_persistent_member, sizes_at, sizes_of, text_at, text_of, variables_holding}
 use Rattle.mdf_code.specs.Right.{StraysAsInPlace}
@@ -37,12 +39,13 @@ use Rattle.mpl_gen_code.proofs.Fronts.{formals_first}
 use Rattle.mpl_gen_code.proofs.Starting.{formals_well}
 use Rattle.mpl_gen_code.proofs.TypedPrograms.{typed_fits}
 use Rattle.mpl_gen_laws.specs.SafeFrames.{Safe}
+use Rattle.mpl_gen_laws.proofs.CoveredBodies.{ProgramCovers, bodies_covered}
 use Rattle.mpl_gen_laws.proofs.SafeBodies.{IsBodyOf, body_follows, called_upto, words_held}
 use Rattle.mpl_gen_laws.proofs.SafeExpressions.{MayIn}
 use Rattle.mpl_gen_laws.proofs.SafeSteps.{Run, Scene}
 use Rattle.mpl_gen_laws.proofs.SafeTold.{strays_nowhere}
 
-module _ (p : Program) (marks : ℕ → Bool) (marked : (id : ℕ) → marks id ≡ true) (trees : ProgramFits p.declarations marks) (start : BodyStart) (counts : ℕ → ℕ) (n : ℕ) where
+module _ (p : Program) (marks : ℕ → Bool) (covers : ProgramCovers p.declarations marks) (trees : ProgramFits p.declarations marks) (start : BodyStart) (counts : ℕ → ℕ) (n : ℕ) where
   abbrev ds : List Declaration
   ds = p.declarations
 
@@ -84,8 +87,8 @@ module _ (p : Program) (marks : ℕ → Bool) (marked : (id : ℕ) → marks id 
 
   main_safe : length start.args ≡ 0 → SafeFrom None
   main_safe no_args =
-      body_follows main_scene main_may (main_env ds marks) marked main_allowed n (λ m le. called_upto ds marks marked trees n main_scene compiled m le) marks compiled main_begins tt main_body main_is_body trees.main tt
-      (map Words (variables_holding 0 (sizes_at image InMain) start.args))
+      body_follows main_scene main_may (main_env ds marks) main_allowed n (λ m le. called_upto ds marks covers trees n main_scene compiled m le) marks compiled main_begins tt main_body main_is_body trees.main covers.main tt
+      (variables_holding 0 (sizes_at image InMain) start.args)
       (words_held counts (sizes_at image InMain) (variables_holding 0 (sizes_at image InMain) start.args) (held_fit 0 (sizes_at image InMain) start.args no_args))
 
   -- ---- members
@@ -152,12 +155,10 @@ module _ (p : Program) (marks : ℕ → Bool) (marked : (id : ℕ) → marks id 
       sums (formal ∷ formals) =
           sum_by-cons (words_of_formal ds) formal formals ∙ ap (λ n. words_of_formal ds formal + n) (sums formals) ∙ sym (sum_by-cons (λ (n : ℕ). n) (words_of_formal ds formal) (map (words_of_formal ds) formals))
 
-    abbrev us : List Held
-    us = map Words (variables_holding (formals_at image (Some id)) (sizes_at image (InMember m.id)) start.args)
-
     member_safe : SafeFrom (Some id)
     member_safe =
-        body_follows scene (member_may ds class m) around marked allowed n (λ m le. called_upto ds marks marked trees n scene compiled m le) marks compiled begins tt (stmts_of m.body) is_body (trees.member class m is) (formals_well ds m.formals) us
+        body_follows scene (member_may ds class m) around allowed n (λ m le. called_upto ds marks covers trees n scene compiled m le) marks compiled begins tt (stmts_of m.body) is_body (trees.member class m is) (covers.member class m is) (formals_well ds m.formals)
+        (variables_holding (formals_at image (Some id)) (sizes_at image (InMember m.id)) start.args)
         (words_held counts (sizes_at image (InMember m.id)) (variables_holding (formals_at image (Some id)) (sizes_at image (InMember m.id)) start.args)
         (held_fit (formals_at image (Some id)) (sizes_at image (InMember m.id)) start.args args_long))
 
@@ -176,5 +177,6 @@ module _ (p : Program) (marks : ℕ → Bool) (marked : (id : ℕ) → marks id 
   body_safe : StartFits p start → Safe image start.object counts n 0 (λ r. arg.Unknown) (start_frame Words image start)
   body_safe fit = by_member start.member fit.words
 
-pub marked_frames_stray_nowhere : (p : Program) (marks : ℕ → Bool) → is_typed p ≡ true → ((node : ℕ) → marks node ≡ true) → (start : BodyStart) → StartFits p start → StraysAsInPlace (image_of p marks) start empty
-marked_frames_stray_nowhere p marks typed marked start fit = strays_nowhere (image_of p marks) start (λ counts n. body_safe p marks marked (typed_fits p marks typed) start counts n fit)
+pub covered_frames_stray_nowhere : (p : Program) (marks : ℕ → Bool) → is_typed p ≡ true → ((node : ℕ) → MayBePending p node → marks node ≡ true) → (start : BodyStart) → StartFits p start → StraysAsInPlace (image_of p marks) start empty
+covered_frames_stray_nowhere p marks typed holds start fit =
+    strays_nowhere (image_of p marks) start (λ counts n. body_safe p marks (bodies_covered p marks typed holds) (typed_fits p marks typed) start counts n fit)

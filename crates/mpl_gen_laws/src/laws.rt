@@ -44,9 +44,10 @@ pub fn main_runs_as_its_code()
         YieldsUnstrayed (image_of p marks) (main_start input) empty turns (direct_run p input turns) }
 {}
 
-/// In the code of a well typed program where each use is marked a frame alone strays nowhere but where its body does in
-/// place, from a start that fits and without replies: it loads no variable that it didn't learn.
-pub fn frames_of_marked_programs_stray_nowhere()
-    ensures { (p : Program) (marks : ℕ → Bool) → is_typed p ≡ true → ((node : ℕ) → marks node ≡ true) → (start : BodyStart) → StartFits p start →
+/// In the code of a well typed program where each use is marked that may find a pending or a trapped result a frame alone
+/// strays nowhere but where its body does in place, from a start that fits and without replies: what it loads it has learnt.
+/// More marks change nothing.
+pub fn frames_of_covered_programs_stray_nowhere()
+    ensures { (p : Program) (marks : ℕ → Bool) → is_typed p ≡ true → ((node : ℕ) → MayBePending p node → marks node ≡ true) → (start : BodyStart) → StartFits p start →
         StraysAsInPlace (image_of p marks) start empty }
 {}

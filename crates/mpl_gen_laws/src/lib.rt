@@ -5,7 +5,7 @@ mod laws;
 mod worked;
 
 pub use laws::{
-    frames_of_marked_programs_stray_nowhere, guard_code_holds_as_the_language_says,
+    frames_of_covered_programs_stray_nowhere, guard_code_holds_as_the_language_says,
     images_of_programs_are_images, main_runs_as_its_code,
 };
 pub use worked::{
