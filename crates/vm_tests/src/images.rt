@@ -1,108 +1,93 @@
-ghost use Rattle.std.specs.Prelude.{◌≤◌};
-
+use crate::rows::{Row, code, text};
 use mdf_code::{
-    CodeText, Image, Instr, RawClass, RawClasses, RawCode, RawEntries, RawFunctions, RawImage,
-    RawMember, RawMembers, Sizes, is_sound,
+    Image, RawClass, RawClasses, RawEntries, RawEntry, RawFunctions, RawImage, RawMember,
+    RawMembers, is_sound,
 };
-use mdf_vm::{Frame, Stop};
-use mpl_value::{BodyStart, Bytes, MemberId, NoMemory, Words};
+use mpl_value::{MemberId, NoMemory};
 use std::alloc::Global;
-use std::test::Fail;
 
-/// A code with variables of one word each.
-pub fn code(alloc: Global, variables: u32, instructions: CodeText) -> Result<RawCode, NoMemory> {
-    let mut vars = Sizes::new(alloc);
-    for _variable in 0..variables {
-        vars.push(1)?;
-    }
-    Ok(RawCode {
-        vars,
-        code: instructions,
+/// A member's formals, whether it gives a word, its variables and its code.
+#[derive(Clone, Copy)]
+pub struct Body {
+    pub formals: u32,
+    pub gives: bool,
+    pub variables: u32,
+    pub rows: &'static [Row],
+}
+
+/// An image of a class and of `main`.
+#[derive(Clone, Copy)]
+pub struct Shape {
+    /// The words of an object's state. A class with none is regular.
+    pub words: u32,
+    pub members: &'static [Body],
+    /// The guard of a case that accepts the first member.
+    pub guard: Option<&'static [Row]>,
+    /// The variables of `main`.
+    pub variables: u32,
+    pub main: &'static [Row],
+}
+
+fn classes(alloc: Global, shape: &Shape) -> Result<RawClasses, NoMemory> {
+    let mut classes = RawClasses::new(alloc);
+    classes.push(RawClass {
+        regular: shape.words == 0,
+        words: shape.words,
+        selects: shape.guard.is_some(),
+    })?;
+    Ok(classes)
+}
+
+fn member(alloc: Global, body: &Body) -> Result<RawMember, NoMemory> {
+    Ok(RawMember {
+        class: 0,
+        formals: body.formals,
+        result: if body.gives { Some(1) } else { None },
+        body: code(alloc, body.variables, body.rows)?,
     })
 }
 
-/// An image of one class with one member, or of none.
-pub fn image(
-    alloc: Global,
-    member: Option<(bool, RawMember)>,
-    main: RawCode,
-) -> Result<Image, Fail> {
-    let mut classes = RawClasses::new(alloc);
+fn members(alloc: Global, bodies: &[Body]) -> Result<RawMembers, NoMemory> {
     let mut members = RawMembers::new(alloc);
-    if let Some((regular, member)) = member {
-        classes.push(RawClass {
-            regular,
-            words: if regular { 0 } else { 1 },
-            selects: false,
-        })?;
-        members.push(member)?;
+    for body in bodies {
+        members.push(member(alloc, body)?)?;
     }
-    let raw = RawImage {
+    Ok(members)
+}
+
+fn entries(alloc: Global, guard: Option<&[Row]>) -> Result<RawEntries, NoMemory> {
+    let mut entries = RawEntries::new(alloc);
+    if let Some(rows) = guard {
+        entries.push(RawEntry {
+            class: 0,
+            priority: 1,
+            member: MemberId(0),
+            guard: Some(text(alloc, rows)?),
+        })?;
+    }
+    Ok(entries)
+}
+
+fn raw(alloc: Global, shape: &Shape) -> Result<RawImage, NoMemory> {
+    let classes = classes(alloc, shape)?;
+    let members = members(alloc, shape.members)?;
+    let entries = entries(alloc, shape.guard)?;
+    let main = code(alloc, shape.variables, shape.main)?;
+    Ok(RawImage {
         functions: RawFunctions::new(alloc),
         classes,
         members,
-        entries: RawEntries::new(alloc),
+        entries,
         main,
-    };
-    if !is_sound(alloc, &raw)? {
-        return Err("no image".into());
-    }
-    Ok(Image::of(raw))
+    })
 }
 
-pub fn main_start(alloc: Global) -> BodyStart {
-    start(alloc, None, Words::new(alloc), Words::new(alloc))
-}
-
-pub fn start(alloc: Global, member: Option<MemberId>, args: Words, state: Words) -> BodyStart {
-    BodyStart {
-        member,
-        args,
-        state,
-        object: 0,
-        number: 0,
-        input: Words::new(alloc),
-    }
-}
-
-pub fn letter_i(alloc: Global) -> Result<Instr, NoMemory> {
-    Ok(Instr::Print(Bytes::from_slice(alloc, b"i")?))
-}
-
-/// A frame and its image.
-#[derive(Drop)]
-pub struct Rig {
-    pub image: Image,
-    pub frame: Frame,
-}
-
-impl Rig {
-    /// At the start of `main`.
-    pub fn of_main(
-        alloc: Global,
-        member: Option<(bool, RawMember)>,
-        main: RawCode,
-    ) -> Result<Rig, Fail> {
-        let image = image(alloc, member, main)?;
-        match Frame::start(alloc, &image, &main_start(alloc)) {
-            Ok(frame) => Ok(Rig { image, frame }),
-            Err(_) => Err("no memory".into()),
-        }
-    }
-
-    /// Runs on, and once more where no memory was left.
-    pub fn run(&mut self, quantum: u32) -> Option<Stop>
-        requires some { 1 ≤ quantum }
-        requires few { quantum ≤ 256 }
-    {
-        for _try in 0..2 {
-            if !self.frame.is_ready() {
-                return None;
-            }
-            if let Ok(stop) = self.frame.run(&self.image, quantum) {
-                return Some(stop);
-            }
-        }
+/// None where the parts are no image, or no memory is left.
+pub fn image(alloc: Global, shape: &Shape) -> Option<Image> {
+    let raw = raw(alloc, shape).ok()?;
+    if is_sound(alloc, &raw).ok()? {
+        Some(Image::of(raw))
+    } else {
         None
     }
 }

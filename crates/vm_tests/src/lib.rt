@@ -2,12 +2,20 @@
 #![tactic(auto)]
 
 #[cfg(test)]
-mod calls;
+mod buffer;
+#[cfg(test)]
+mod fib;
+#[cfg(test)]
+mod frames;
+#[cfg(test)]
+mod guards;
 #[cfg(test)]
 mod images;
 #[cfg(test)]
 mod loops;
 #[cfg(test)]
-mod objects;
+mod played;
 #[cfg(test)]
 mod room;
+#[cfg(test)]
+mod rows;
