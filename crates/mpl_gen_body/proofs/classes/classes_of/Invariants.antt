@@ -1,0 +1,13 @@
+use Rattle.std.proofs.Common.{◌≡◌, ◌++◌, drop, map}
+use Rattle.mpl_mean.specs.Laws.Sizes.{Every}
+use Rattle.mpl_gen_code.specs.ProgramImage.{classes_image}
+use Rattle.mpl_gen_scope.specs.Bounds.{StateFits}
+use Rattle.mpl_gen_scope.specs.SeenClasses.{class_seen, select_seen}
+use Rattle.mpl_gen_body.proofs.classes.classes_of.Given as goal
+
+abbrev pub invariant-loop-class : goal.invariant-loop-class
+invariant-loop-class l = record {
+  images : l.classes ++ classes_image l.outline (map class_seen (drop l.class-index l.class-items)) (map select_seen (drop l.class-index l.class-items))
+      ≡ classes_image l.outline (map class_seen l.class-items) (map select_seen l.class-items);
+  fit : Every (StateFits l.outline) (map class_seen (drop l.class-index l.class-items));
+}

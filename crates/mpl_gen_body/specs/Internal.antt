@@ -1,0 +1,4 @@
+pub mod Accepting
+pub mod Fitting
+pub mod Surroundings
+pub mod Writing

@@ -1,0 +1,1 @@
+-- What is declared in a block goes with it.
