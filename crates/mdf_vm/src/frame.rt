@@ -1,5 +1,4 @@
-ghost use Rattle.std.specs.Prelude.{◌≡◌, ◌+◌, ◌<◌, ◌≤◌, ◌^◌, ◌∷◌, ◌++◌, [], length, map, Some, None, IfOk, OnOk, OnErr};
-ghost use Rattle.std.specs.Bool.{OnTrue};
+ghost use Rattle.std.specs.Prelude.{◌≡◌, ◌↔◌, ◌+◌, ◌<◌, ◌≤◌, ◌^◌, ◌∷◌, ◌++◌, [], length, map, Some, None, IfOk, IsTrue, OnOk, OnErr};
 ghost use Rattle.mdf_code.specs.Alone.{Pending, Words};
 ghost use Rattle.mdf_code.specs.Parts.{sizes_at, variables_holding};
 ghost use Rattle.mdf_vm.specs.Places as places;
@@ -235,7 +234,7 @@ impl Frame {
 
     /// Whether the frame can run on: its last stop was answered, and its turns and calls are few enough.
     pub fn is_ready(&self) -> bool
-        ensures { OnTrue result (IsReady self.now) }
+        ensures { IsTrue result ↔ IsReady self.now }
     {
         let answered = match self.last {
             Last::Going | Last::Called(_) | Last::Named(_) => true,
@@ -246,7 +245,7 @@ impl Frame {
 
     /// Whether the frame waits for the result of a call, by its number.
     pub fn awaits(&self, number: u32) -> bool
-        ensures { OnTrue result (Awaits number self.now) }
+        ensures { IsTrue result ↔ Awaits number self.now }
     {
         let needed = match self.last {
             Last::Needs(result) => result == number,
@@ -257,14 +256,14 @@ impl Frame {
 
     /// Whether the frame waits for the word of an object.
     pub fn awaits_object(&self) -> bool
-        ensures { OnTrue result (self.now.last ≡ last.Creates) }
+        ensures { IsTrue result ↔ (self.now.last ≡ last.Creates) }
     {
         matches!(self.last, Last::Creates)
     }
 
     /// Whether the frame has come to its end or to a trap.
     pub fn is_over(&self) -> bool
-        ensures { OnTrue result (HasEnded self.now.last) }
+        ensures { IsTrue result ↔ HasEnded self.now.last }
     {
         matches!(self.last, Last::Ended(_) | Last::Trapped(_))
     }
