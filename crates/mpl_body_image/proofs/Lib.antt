@@ -1,7 +1,4 @@
-pub mod Bounds
-pub mod Classes
 pub mod Tables
-pub mod Words
 pub mod ByNumbers
 pub mod Blocks
 pub mod Writes

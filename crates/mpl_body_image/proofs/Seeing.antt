@@ -5,8 +5,8 @@ use Rattle.mpl_ast.specs.declared.program.Declaration.{Declaration}
 use Rattle.mpl_mean.specs.Meaning.Layout as layout
 use Rattle.mpl_mean.specs.Meaning.Layout.{parts_of}
 use Rattle.mpl_body_image.specs.Internal.Bodies.{Sees}
-use Rattle.mpl_body_image.specs.Internal.SeenClasses.{class_seen}
-use Rattle.mpl_body_image.specs.Internal.SeenParts.{part_seen}
+use Rattle.mpl_layout.specs.SeenClasses.{class_seen}
+use Rattle.mpl_layout.specs.SeenParts.{part_seen}
 use Rattle.mpl_body_image.specs.declared.scope.Object.{Object}
 
 pub sees_nothing : (ds : List Declaration) (class : layout.Class) → class.is_regular ≡ true → Sees ds None class

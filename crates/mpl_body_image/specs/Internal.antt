@@ -1,12 +1,7 @@
 -- What the private functions say of their results. The contract of `image_of` needs none of it.
-pub mod Bounds
 pub mod SeenLocals
-pub mod SeenClasses
-pub mod SeenNamed
 pub mod SeenOutline
 pub mod Outlines
-pub mod SeenParts
-pub mod Parts
 pub mod SeenScope
 pub mod RowCodes
 pub mod ByNumber

@@ -4,10 +4,10 @@ ghost use Rattle.mpl_mean.specs.Plain.Scopes.{found_at};
 ghost use Rattle.mpl_body_code.specs.declared.instruction.Instruction.TheVariants as instruction;
 ghost use Rattle.mpl_mean.specs.Plain.Expr.{expr_of, expr_of_flow, expr_of_place};
 ghost use Rattle.mpl_mean.specs.Plain.Stmt.{assigns};
-ghost use Rattle.mpl_body_image.specs.Internal.SeenClasses.{class_seen};
+ghost use Rattle.mpl_layout.specs.SeenClasses.{class_seen};
 ghost use Rattle.mpl_body_image.specs.Internal.SeenScope.{env_seen, found_seen};
 
-use crate::class::Class;
+use mpl_layout::class::Class;
 use crate::expressions::expression;
 use crate::flows::flow;
 use crate::found::Found;

@@ -6,14 +6,14 @@ ghost use Rattle.mpl_mean.specs.Plain.Expr.{expr_of, expr_of_call, expr_of_flow,
 ghost use Rattle.mpl_plain.specs.ExprMeaning.{tree_name};
 ghost use Rattle.mpl_body_image.specs.Internal.RowCodes.{all_flows_code};
 ghost use Rattle.mpl_body_image.specs.Internal.ByNumber.{object_by, own_by, regular_by};
-ghost use Rattle.mpl_body_image.specs.Internal.SeenClasses.{class_seen};
+ghost use Rattle.mpl_layout.specs.SeenClasses.{class_seen};
 ghost use Rattle.mpl_body_image.specs.Internal.SeenScope.{env_seen, found_seen};
 
-use crate::class::Class;
+use mpl_layout::class::Class;
 use crate::expressions::{expression, read};
 use crate::found::Found;
 use crate::names::whole_name;
-use crate::outline::member_id;
+use mpl_layout::members::member_id;
 use crate::scope::{Scope, class_found, found_at, own_member};
 use mpl_ast::expression::Expression;
 use mpl_ast::flow::{Call, Flow};

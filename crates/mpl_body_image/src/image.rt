@@ -10,13 +10,15 @@ ghost use Rattle.mpl_mean.specs.Plain.Scopes.{formal_shape};
 ghost use Rattle.mpl_body_code.specs.SeenImage.{image_seen};
 ghost use Rattle.mpl_body_image.specs.Laid.{class_entries, classes_code, function_entries, functions_code, laid, main_code, main_entry, member_entries, members_code};
 ghost use Rattle.mpl_body_image.specs.Internal.Bodies.{Sees, env_with, is_main, statements_in};
-ghost use Rattle.mpl_body_image.specs.Internal.Bounds.{StateFits};
-ghost use Rattle.mpl_body_image.specs.Internal.SeenClasses.{class_seen};
+ghost use Rattle.mpl_layout.specs.Bounds.{StateFits};
+ghost use Rattle.mpl_layout.specs.SeenClasses.{class_seen};
 
-use crate::class::Class;
-use crate::layout::parts_of_items;
+use mpl_layout::class::Class;
+use mpl_layout::parts::parts_of_items;
 use crate::locals::{Locals, Shape};
-use crate::outline::{Outline, declarations_of, is_same};
+use crate::outline::Outline;
+use mpl_layout::layout::declarations_of;
+use mpl_layout::name::is_same;
 use crate::scope::{Object, Scope, is_bool};
 use crate::statements::body;
 use mpl_ast::class::{Formal, Formals, Item, ResultType};
@@ -182,7 +184,7 @@ fn add_class<'o, 'a>(
     if class.is_regular {
         return add_members(alloc, outline, None, code, members, class);
     }
-    let parts = parts_of_items(alloc, outline, class.items)?;
+    let parts = parts_of_items(alloc, outline.layout(), class.items)?;
     let object = Object { class, parts };
     add_members(alloc, outline, Some(&object), code, members, class)
 }

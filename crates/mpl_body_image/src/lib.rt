@@ -2,17 +2,13 @@
 #![tactic(auto)]
 
 mod assignments;
-mod class;
 mod expressions;
 mod flows;
 mod found;
 mod image;
-mod layout;
 mod locals;
-mod named;
 mod names;
 mod outline;
-mod part;
 mod scope;
 mod sizes;
 mod statements;

@@ -1,22 +1,15 @@
-ghost use Rattle.std.specs.Prelude.{◌≡◌, ℕ, ◌+◌, ◌≤◌, ◌<◌, ◌^◌, List, ◌∷◌, ◌++◌, length, map, option_map, IfOk};
-ghost use Rattle.mpl_ast.specs.declared.class.Item.{Item};
-ghost use Rattle.std.specs.Str.{bytes_eq};
+ghost use Rattle.std.specs.Prelude.{◌≡◌, ℕ, ◌+◌, ◌≤◌, ◌<◌, ◌^◌, List, ◌∷◌, map, option_map, IfOk};
 ghost use Rattle.mpl_ast.specs.declared.program.Declaration.{Declaration};
 ghost use Rattle.mpl_mean.specs.Laws.Sizes.{Every};
-ghost use Rattle.mpl_mean.specs.Meaning.Layout as layout;
-ghost use Rattle.mpl_mean.specs.Meaning.Layout.{class_named, classes_from, classes_of, meant_by, Member, member_named, members_from};
+ghost use Rattle.mpl_mean.specs.Meaning.Layout.{class_named, classes_of};
 ghost use Rattle.mpl_body_code.specs.Codes.{number_of_function};
 ghost use Rattle.mpl_scope.specs.First.{at, or_else};
-ghost use Rattle.mpl_body_image.specs.Internal.Bounds.{Bounded, HasFewMembers, StateFits};
-ghost use Rattle.mpl_body_image.specs.Internal.Outlines.{numbered_on};
-ghost use Rattle.mpl_body_image.specs.Internal.SeenClasses.{class_seen};
-ghost use Rattle.mpl_body_image.specs.Internal.SeenNamed.{NamedFits, named_seen};
+ghost use Rattle.mpl_layout.specs.Bounds.{Bounded, StateFits};
+ghost use Rattle.mpl_layout.specs.SeenClasses.{class_seen};
 
-use crate::class::Class;
-use crate::named::{Named, types_of};
-use mpl_ast::class::{Item, Kind};
 use mpl_ast::program::Declaration;
-use mpl_mean::Typed;
+use mpl_layout::class::Class;
+use mpl_layout::layout::Layout;
 use mpl_scope::first_named::FirstNamed;
 use mpl_value::NoMemory;
 use std::alloc::Global;
@@ -25,11 +18,7 @@ use std::marker::Model;
 /// The declarations of a program, and its types, classes and plain functions by their names.
 #[derive(Drop)]
 pub struct Outline<'a> {
-    declarations: &'a [Declaration],
-    types: FirstNamed<'a, Named<'a>>,
-    /// All of them, in their order.
-    classes: Vec<Class<'a>>,
-    classes_named: FirstNamed<'a, Class<'a>>,
+    layout: Layout<'a>,
     /// By their numbers.
     functions: FirstNamed<'a, usize>,
 }
@@ -47,9 +36,9 @@ impl<'a> Model for Outline<'a> {
 
     ghost coded = { Prim.hlevel (codes, expression.the_row.coded, flow.the_row.coded, statement.the_row.coded) };
 
-    ghost view = { λ o. o.declarations.now };
+    ghost view = { λ o. o.layout };
 
-    ghost invariant = { λ o. Stands o.declarations.now o.types o.classes.items o.classes_named o.functions };
+    ghost invariant = { λ o. Stands o.layout o.functions };
 }
 
 impl<'a> Outline<'a> {
@@ -57,48 +46,34 @@ impl<'a> Outline<'a> {
         requires { Bounded declarations.now }
         ensures { IfOk result (λ outline. outline ≡ declarations.now) }
     {
-        let types = types_of(alloc, declarations)?;
-        let classes = classes_of(alloc, declarations)?;
-        let classes_named = by_name(alloc, classes.as_slice())?;
+        let layout = Layout::of(alloc, declarations)?;
         let functions = functions_of(alloc, declarations)?;
-        Ok(Outline {
-            declarations,
-            types,
-            classes,
-            classes_named,
-            functions,
-        })
+        Ok(Outline { layout, functions })
+    }
+
+    pub fn layout(&self) -> &Layout<'a>
+        ensures { result.now ≡ self.now }
+    {
+        &self.layout
     }
 
     pub fn declarations(&self) -> &'a [Declaration]
         ensures { result.now ≡ self.now }
     {
-        self.declarations
-    }
-
-    /// What the name of a type stands for.
-    #[tactic(auto, using(crate::proofs::Tables::named_fits))]
-    pub fn named(&self, name: &'a [u8]) -> Named<'a>
-        ensures is { named_seen name.now result ≡ meant_by name.now self.now }
-        ensures few { NamedFits self.now result }
-    {
-        match self.types.find(name) {
-            Some(named) => *named,
-            None => Named::Nothing,
-        }
+        self.layout.declarations()
     }
 
     pub fn classes(&self) -> &[Class<'a>]
         ensures are { map class_seen result.now ≡ classes_of self.now }
         ensures fit { Every (StateFits self.now) (map class_seen result.now) }
     {
-        self.classes.as_slice()
+        self.layout.classes()
     }
 
     pub fn class_named(&self, name: &'a [u8]) -> Option<Class<'a>>
         ensures { option_map class_seen result ≡ class_named name.now (classes_of self.now) }
     {
-        self.classes_named.find(name).copied()
+        self.layout.class_named(name)
     }
 
     /// The number of a plain function.
@@ -107,123 +82,6 @@ impl<'a> Outline<'a> {
     {
         self.functions.find(name).copied()
     }
-}
-
-/// The declarations of an accepted program.
-pub fn declarations_of(typed: &Typed) -> &[Declaration]
-    ensures are { result.now ≡ typed.now.declarations }
-    ensures bounded { Bounded result.now }
-{
-    let program = typed.program();
-    program.declarations.as_slice()
-}
-
-// ---- classes
-
-fn classes_of<'a>(
-    alloc: Global,
-    declarations: &'a [Declaration],
-) -> Result<Vec<Class<'a>>, NoMemory>
-    requires few { length declarations.now ≤ 4096 }
-    requires members { Every HasFewMembers declarations.now }
-    ensures { IfOk result (λ classes. map class_seen classes.items ≡ classes_of declarations.now) }
-{
-    let mut classes = Vec::new(alloc);
-    let mut first = 0;
-    for declaration in declarations {
-        first = add_class(&mut classes, first, declaration)?;
-    }
-    Ok(classes)
-}
-
-/// One more declaration, which may be a class. Answers the number of the next member.
-fn add_class<'a>(
-    classes: &mut Vec<Class<'a>>,
-    first: u32,
-    declaration: &'a Declaration,
-) -> Result<u32, NoMemory>
-    requires room { first + 64 ≤ 262144 }
-    requires members { HasFewMembers declaration.now }
-    ensures classes { IfOk result (λ next. (others : List Declaration) →
-        map class_seen classes.new.items ++ classes_from (length classes.new.items) next others ≡ map class_seen classes.old.items ++ classes_from (length classes.old.items) first (declaration.now ∷ others)) }
-    ensures next { IfOk result (λ next. next ≤ first + 64) }
-{
-    match declaration {
-        Declaration::Class(_, _, kind, name, items) => {
-            let items = items.as_slice();
-            push_class(
-                classes,
-                Class {
-                    number: classes.len(),
-                    first,
-                    name: name.text.as_slice(),
-                    is_regular: is_regular(kind),
-                    items,
-                },
-            )
-        }
-        Declaration::Struct(..) => Ok(first),
-        Declaration::Function(..) => Ok(first),
-    }
-}
-
-#[tactic(auto, using(crate::proofs::Classes::class_added, crate::proofs::Classes::as_many_members))]
-fn push_class<'a>(classes: &mut Vec<Class<'a>>, class: Class<'a>) -> Result<u32, NoMemory>
-    requires { class.number ≡ length classes.old.items }
-    ensures classes { IfOk result (λ next. (others : List Declaration) →
-        map class_seen classes.new.items ++ classes_from (length classes.new.items) next others
-        ≡ map class_seen classes.old.items ++ class_seen class.entry ∷ classes_from (length classes.old.items + 1) (class.entry.first + length (members_from class.entry.first class.entry.items.now)) others) }
-    ensures next { IfOk result (λ next. next ≡ class.entry.first + length (members_from 0 class.entry.items.now)) }
-{
-    let next = class.first + count_members(class.items);
-    classes.push(class)?;
-    Ok(next)
-}
-
-fn is_regular(kind: &Kind) -> bool
-    ensures { result ≡ layout.is_regular kind.now }
-{
-    match kind {
-        Kind::Regular(_) => true,
-        Kind::Persistent(_) => false,
-    }
-}
-
-fn count_members(items: &[Item]) -> u32
-    requires { length (members_from 0 items.now) ≤ 262144 }
-    ensures { result ≡ length (members_from 0 items.now) }
-{
-    let mut count = 0;
-    for item in items {
-        count += counted(item);
-    }
-    count
-}
-
-/// One for a member, and none for anything else.
-#[tactic(auto, using(crate::proofs::Classes::as_many_members))]
-fn counted(item: &Item) -> u32
-    ensures { (others : List Item) → result + length (members_from 0 others) ≡ length (members_from 0 (item.now ∷ others)) }
-{
-    match item {
-        Item::Member(..) => 1,
-        Item::OfField(..) => 0,
-        Item::Select(..) => 0,
-        Item::Public(..) => 0,
-        Item::Private(..) => 0,
-        Item::Empty(..) => 0,
-    }
-}
-
-/// The first class of each name.
-fn by_name<'a>(alloc: Global, classes: &[Class<'a>]) -> Result<FirstNamed<'a, Class<'a>>, NoMemory>
-    ensures { IfOk result (λ named. (name : List ℕ) → option_map class_seen (at named name) ≡ class_named name (map class_seen classes.now)) }
-{
-    let mut named = FirstNamed::new(alloc);
-    for class in classes {
-        named.add(class.name, *class)?;
-    }
-    Ok(named)
 }
 
 // ---- functions
@@ -263,52 +121,4 @@ fn add_function<'a>(
         Declaration::Struct(..) => Ok(number),
         Declaration::Class(..) => Ok(number),
     }
-}
-
-// ---- members
-
-/// The number of the member of a name.
-#[tactic(auto, using(crate::proofs::Classes::few_ids))]
-pub fn member_id(class: Class, name: &[u8]) -> Option<u32>
-    ensures { result ≡ option_map (λ (m : Member). m.id) (member_named name.now (class_seen class.entry).members) }
-{
-    match id_among(class, name) {
-        Some(id) => Some(id as u32),
-        None => None,
-    }
-}
-
-fn id_among(class: Class, name: &[u8]) -> Option<usize>
-    ensures { result ≡ option_map (λ (m : Member). m.id) (member_named name.now (class_seen class.entry).members) }
-{
-    let mut id = class.first as usize;
-    for item in class.items {
-        match is_named_member(item, name) {
-            Some(true) => return Some(id),
-            Some(false) => id += 1,
-            None => {}
-        }
-    }
-    None
-}
-
-/// Whether it is a member, and then whether it has this name.
-fn is_named_member(item: &Item, name: &[u8]) -> Option<bool>
-    ensures { (id : ℕ) (others : List Item) → option_map (λ (m : Member). m.id) (member_named name.now (members_from id (item.now ∷ others))) ≡ numbered_on result id (option_map (λ (m : Member). m.id) (member_named name.now (members_from (id + 1) others))) (option_map (λ (m : Member). m.id) (member_named name.now (members_from id others))) }
-{
-    match item {
-        Item::Member(_, _, found, _, _) => Some(is_same(found.text.as_slice(), name)),
-        Item::OfField(..) => None,
-        Item::Select(..) => None,
-        Item::Public(..) => None,
-        Item::Private(..) => None,
-        Item::Empty(..) => None,
-    }
-}
-
-/// Two names are the same.
-pub fn is_same(a: &[u8], b: &[u8]) -> bool
-    ensures { result ≡ bytes_eq a.now b.now }
-{
-    a == b
 }

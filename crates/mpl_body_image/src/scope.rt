@@ -3,17 +3,19 @@ ghost use Rattle.mpl_mean.specs.Meaning.Layout.{Member, member_named, part_named
 ghost use Rattle.mpl_mean.specs.Meaning.PlaceMeaning.{is_bool};
 ghost use Rattle.mpl_mean.specs.Plain.Scopes.{class_found, found_at, found_field, found_name, found_part, slot_named};
 ghost use Rattle.mpl_body_code.specs.Scopes.{base_of_slot, spot_of};
-ghost use Rattle.mpl_body_image.specs.Internal.SeenClasses.{class_seen};
+ghost use Rattle.mpl_layout.specs.SeenClasses.{class_seen};
 ghost use Rattle.mpl_body_image.specs.Internal.SeenLocals.{slot_seen};
-ghost use Rattle.mpl_body_image.specs.Internal.SeenParts.{part_seen};
+ghost use Rattle.mpl_layout.specs.SeenParts.{part_seen};
 ghost use Rattle.mpl_body_image.specs.Internal.SeenScope.{env_seen, found_seen, members_seen, parts_seen};
 
-use crate::class::Class;
+use mpl_layout::class::Class;
 use crate::found::Found;
-use crate::layout::{part_named, parts_of_type, words_of};
+use mpl_layout::parts::{part_named, parts_of_type};
+use mpl_layout::words::words_of;
 use crate::locals::{Locals, Slot};
-use crate::outline::{Outline, member_id};
-use crate::part::Part;
+use crate::outline::Outline;
+use mpl_layout::members::member_id;
+use mpl_layout::part::Part;
 use mpl_ast::expression::Target;
 use mpl_ast::statement::TypeName;
 use mpl_body_code::{Base, Spot};
@@ -79,7 +81,7 @@ fn found_name<'o, 'a>(scope: &Scope<'o, 'a>, name: &'a [u8]) -> Option<Found<'a>
             Some(Found {
                 slot: Some(slot),
                 offset: 0,
-                words: words_of(scope.outline, shape.type_name, shape.dimension),
+                words: words_of(scope.outline.layout(), shape.type_name, shape.dimension),
                 type_name: shape.type_name,
                 is_whole: true,
             })
@@ -96,7 +98,7 @@ fn found_field<'o, 'a>(
     requires { found.offset ≤ 256 }
     ensures { IfOk result (λ field. option_map found_seen field ≡ found_field (env_seen scope.now) name.now (Some (found_seen found.entry))) }
 {
-    let parts = parts_of_type(scope.alloc, scope.outline, found.type_name)?;
+    let parts = parts_of_type(scope.alloc, scope.outline.layout(), found.type_name)?;
     let part = part_named(parts.as_slice(), name);
     Ok(found_part(found.slot, found.offset, part))
 }

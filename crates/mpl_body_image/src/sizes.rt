@@ -4,12 +4,13 @@ ghost use Rattle.mpl_mean.specs.Laws.Sizes.{member_of_id, words_of_formal};
 ghost use Rattle.mpl_mean.specs.Meaning.BodyMeaning.{member_of_classes};
 ghost use Rattle.mpl_mean.specs.Meaning.Layout.{Class as Inner, Member, member_numbered, members_from};
 ghost use Rattle.mpl_body_image.specs.Internal.Outlines.{found_on, members_on};
-ghost use Rattle.mpl_body_image.specs.Internal.SeenClasses.{class_seen};
+ghost use Rattle.mpl_layout.specs.SeenClasses.{class_seen};
 
-use crate::class::Class;
+use mpl_layout::class::Class;
 use crate::image::formals_of;
-use crate::layout::words_of;
-use crate::outline::{Outline, declarations_of};
+use mpl_layout::words::words_of;
+use crate::outline::Outline;
+use mpl_layout::layout::declarations_of;
 use mpl_ast::class::{Formal, Item};
 use mpl_mean::Typed;
 use mpl_value::{MemberId, NoMemory};
@@ -49,7 +50,7 @@ fn words_of_all<'a>(
 {
     let mut words = Vec::new(alloc);
     for formal in formals {
-        words.push(words_of(outline, &formal.type_name, None))?;
+        words.push(words_of(outline.layout(), &formal.type_name, None))?;
     }
     Ok(words)
 }
@@ -83,7 +84,7 @@ fn formals_among<'a>(class: Class<'a>, id: u32) -> Option<&'a [Formal]>
     None
 }
 
-#[tactic(auto, using(crate::proofs::Classes::as_many_members))]
+#[tactic(auto, using(mpl_layout::proofs::ClassesInOrder::as_many_members))]
 fn formals_if_member<'a>(item: &'a Item) -> Option<&'a [Formal]>
     ensures counted { (others : List Item) → length (members_from 0 (item.now ∷ others)) ≡ members_on (option_map (λ formals. true) result) (length (members_from 0 others)) }
     ensures found { (at id : ℕ) (others : List Item) → option_map (λ (m : Member). m.formals) (member_numbered id (members_from at (item.now ∷ others))) ≡ found_on (option_map (λ formals. formals.now) result) (nat_eq at id) (option_map (λ (m : Member). m.formals) (member_numbered id (members_from (at + 1) others))) (option_map (λ (m : Member). m.formals) (member_numbered id (members_from at others))) }

@@ -10,7 +10,7 @@ ghost use Rattle.mpl_body_image.specs.Internal.Writing.{Wrote, WroteAll, WroteCo
 use crate::assignments::{assign, create, give_back, print};
 use crate::expressions::expression;
 use crate::flows::{call, flow};
-use crate::layout::words_of;
+use mpl_layout::words::words_of;
 use crate::locals::Shape;
 use crate::scope::Scope;
 use mpl_ast::expression::Expression;
@@ -243,7 +243,7 @@ fn declare_one<'o, 'a>(
 {
     match declarator {
         Declarator::Plain(_, name, dimension) => {
-            let words = words_of(scope.outline, type_name, *dimension);
+            let words = words_of(scope.outline.layout(), type_name, *dimension);
             code.push(Instruction::Declare(words))?;
             let name = name.text.as_slice();
             scope.locals.declare(Shape {

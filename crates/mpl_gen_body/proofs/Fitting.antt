@@ -15,10 +15,11 @@ use Rattle.mpl_mean.specs.Laws.Sizes.{Every}
 use Rattle.mpl_mean.specs.Meaning.Layout.{Class, Member, Part, formals_of, member_named, members_from, parts_of, words_of_parts}
 use Rattle.mpl_gen_code.specs.ExpressionCode.{PlainFunction, plain_functions}
 use Rattle.mpl_gen_code.specs.ProgramImage.{all_entries, entries_image, entries_of_select, function_image, member_image, members_image, with_entry}
-use Rattle.mpl_gen_scope.specs.Bounds.{StateFits, words_within}
-use Rattle.mpl_gen_scope.specs.SeenClasses.{class_seen, select_seen}
-use Rattle.mpl_gen_scope.specs.declared.class.Class as scope
-use Rattle.mpl_gen_scope.proofs.Bounds.{fields_laid}
+use Rattle.mpl_layout.specs.Bounds.{StateFits, words_within}
+use Rattle.mpl_gen_scope.specs.SeenSelects.{select_seen}
+use Rattle.mpl_layout.specs.SeenClasses.{class_seen}
+use Rattle.mpl_layout.specs.declared.class.Class as scope
+use Rattle.mpl_layout.proofs.Bounds.{fields_laid}
 use Rattle.mpl_gen_body.specs.ImageFits.{EntryFits, FunctionFits, MemberFits}
 use Rattle.mpl_gen_body.specs.Internal.Fitting.{DeclarationFits, ItemFits, ListedFits}
 

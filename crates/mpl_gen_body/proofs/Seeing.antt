@@ -3,10 +3,10 @@ use Rattle.std.proofs.Common.{◌≡◌, Bool, true, false, List, [], map, Some,
 use Rattle.mpl_ast.specs.declared.program.Declaration.{Declaration}
 use Rattle.mpl_mean.specs.Meaning.Layout as layout
 use Rattle.mpl_mean.specs.Meaning.Layout.{parts_of}
-use Rattle.mpl_gen_scope.specs.SeenClasses.{class_seen}
-use Rattle.mpl_gen_scope.specs.SeenParts.{part_seen}
+use Rattle.mpl_layout.specs.SeenClasses.{class_seen}
+use Rattle.mpl_layout.specs.SeenParts.{part_seen}
 use Rattle.mpl_gen_scope.specs.SeenScope.{members_seen}
-use Rattle.mpl_gen_scope.specs.declared.class.Class.{Class}
+use Rattle.mpl_layout.specs.declared.class.Class.{Class}
 use Rattle.mpl_gen_body.specs.Internal.Surroundings.{Sees}
 use Rattle.mpl_gen_body.specs.declared.bodies.Object.{Object}
 

@@ -9,7 +9,7 @@ ghost use Rattle.mpl_gen_code.specs.Scopes.{found_at, with_hidden};
 ghost use Rattle.mpl_gen_code.specs.StatementCode.{assign_code, behind, behind_assignment, behind_element, behind_found, create_code, create_in, create_of, element_code, into_code, into_slot, stmt_code, store_element, tested_store, tests_index};
 ghost use Rattle.mpl_gen_body.specs.Internal.Writing.{Wrote};
 ghost use Rattle.mpl_gen_expr.specs.Texts.{written};
-ghost use Rattle.mpl_gen_scope.specs.SeenClasses.{class_seen};
+ghost use Rattle.mpl_layout.specs.SeenClasses.{class_seen};
 ghost use Rattle.mpl_gen_scope.specs.SeenLocals.{slot_seen};
 ghost use Rattle.mpl_gen_scope.specs.SeenScope.{env_seen, found_seen};
 
@@ -21,7 +21,7 @@ use mpl_gen_expr::codes::Codes;
 use mpl_gen_expr::draft::Draft;
 use mpl_gen_expr::expressions::expression;
 use mpl_gen_expr::flows::{flow, flow_value};
-use mpl_gen_scope::class::Class;
+use mpl_layout::class::Class;
 use mpl_gen_scope::found::Found;
 use mpl_gen_scope::locals::Slot;
 use mpl_gen_scope::scope::{Scope, class_found, found_at};

@@ -21,12 +21,13 @@ use mpl_ast::class::{Formal, Formals};
 use mpl_ast::program::Declaration;
 use mpl_ast::statement::{Block, Statement};
 use mpl_gen_expr::codes::Codes;
-use mpl_gen_scope::class::Class;
-use mpl_gen_scope::layout::words_of_one;
+use mpl_layout::class::Class;
+use mpl_layout::words::words_of_one;
 use mpl_gen_scope::locals::{Locals, Shape, Slot};
 use mpl_gen_scope::marks::Marks;
-use mpl_gen_scope::outline::{Outline, is_same};
-use mpl_gen_scope::part::Part;
+use mpl_gen_scope::outline::Outline;
+use mpl_layout::name::is_same;
+use mpl_layout::part::Part;
 use mpl_gen_scope::scope::{Finish, Scope};
 use mpl_value::{NoMemory, Numbers};
 use std::alloc::Global;
@@ -135,7 +136,7 @@ fn sizes_of<'a>(
 {
     let mut sizes = Numbers::new(alloc);
     for formal in formals {
-        sizes.push(words_of_one(outline, &formal.type_name))?;
+        sizes.push(words_of_one(outline.layout(), &formal.type_name))?;
     }
     Ok(sizes)
 }

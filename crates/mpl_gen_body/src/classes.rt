@@ -4,16 +4,17 @@ ghost use Rattle.std.specs.Prelude.{◌≡◌, ◌≤◌, List, ◌∷◌, ◌++
 ghost use Rattle.mpl_mean.specs.Laws.Sizes.{words_of_object};
 ghost use Rattle.mpl_mean.specs.Meaning.Layout.{classes_of, words_of_parts};
 ghost use Rattle.mpl_gen_code.specs.ProgramImage.{class_image, classes_image, has_select, select_of, selects_of};
-ghost use Rattle.mpl_gen_scope.specs.Bounds.{StateFits};
-ghost use Rattle.mpl_gen_scope.specs.SeenClasses.{class_seen, select_seen};
-ghost use Rattle.mpl_gen_scope.specs.SeenParts.{part_seen};
+ghost use Rattle.mpl_layout.specs.Bounds.{StateFits};
+ghost use Rattle.mpl_gen_scope.specs.SeenSelects.{select_seen};
+ghost use Rattle.mpl_layout.specs.SeenClasses.{class_seen};
+ghost use Rattle.mpl_layout.specs.SeenParts.{part_seen};
 
 use mdf_code::{RawClass, RawClasses};
 use mpl_ast::class::{Entry, Item};
-use mpl_gen_scope::class::Class;
-use mpl_gen_scope::layout::parts_of_items;
+use mpl_layout::class::Class;
+use mpl_layout::parts::parts_of_items;
 use mpl_gen_scope::outline::Outline;
-use mpl_gen_scope::part::Part;
+use mpl_layout::part::Part;
 use mpl_value::NoMemory;
 use std::alloc::Global;
 
@@ -35,7 +36,7 @@ fn class_of<'o, 'a>(
     requires { StateFits outline.now (class_seen class) }
     ensures { IfOk result (λ raw. raw ≡ class_image outline.now (class_seen class.entry) (has_select (select_seen class.entry))) }
 {
-    let parts = parts_of_items(alloc, outline, class.items)?;
+    let parts = parts_of_items(alloc, outline.layout(), class.items)?;
     Ok(RawClass {
         regular: class.is_regular,
         words: words_of_parts(parts.as_slice()) as u32,

@@ -10,9 +10,10 @@ ghost use Rattle.mpl_gen_body.specs.ImageFits.{EntryFits, GuardFits};
 ghost use Rattle.mpl_gen_body.specs.Internal.Accepting.{accepted_as, accepted_seen, formals_among, guard_with};
 ghost use Rattle.mpl_gen_body.specs.Internal.Fitting.{ListedFits};
 ghost use Rattle.mpl_scope.specs.First.{or_else};
-ghost use Rattle.mpl_gen_scope.specs.Bounds.{StateFits};
-ghost use Rattle.mpl_gen_scope.specs.SeenClasses.{class_seen, select_seen};
-ghost use Rattle.mpl_gen_scope.specs.SeenParts.{part_seen};
+ghost use Rattle.mpl_layout.specs.Bounds.{StateFits};
+ghost use Rattle.mpl_gen_scope.specs.SeenSelects.{select_seen};
+ghost use Rattle.mpl_layout.specs.SeenClasses.{class_seen};
+ghost use Rattle.mpl_layout.specs.SeenParts.{part_seen};
 
 use crate::bodies::{Object, formals_of, scope_of};
 use crate::classes::select_of;
@@ -21,11 +22,13 @@ use mpl_ast::class::{Entry, Formal, Item};
 use mpl_ast::expression::Expression;
 use mpl_gen_expr::codes::Codes;
 use mpl_gen_expr::expressions::expression;
-use mpl_gen_scope::class::Class;
-use mpl_gen_scope::layout::parts_of_items;
+use mpl_layout::class::Class;
+use mpl_layout::parts::parts_of_items;
 use mpl_gen_scope::marks::Marks;
-use mpl_gen_scope::outline::{Outline, is_same, member_id};
-use mpl_gen_scope::part::Part;
+use mpl_gen_scope::outline::Outline;
+use mpl_layout::members::member_id;
+use mpl_layout::name::is_same;
+use mpl_layout::part::Part;
 use mpl_gen_scope::scope::Finish;
 use mpl_value::{MemberId, NoMemory};
 use std::alloc::Global;
@@ -60,7 +63,7 @@ fn add_class<'o, 'a>(
 {
     match select_of(class.items) {
         Some(list) => {
-            let parts = parts_of_items(alloc, outline, class.items)?;
+            let parts = parts_of_items(alloc, outline.layout(), class.items)?;
             add_entries(alloc, outline, parts.as_slice(), entries, class, list)
         }
         None => Ok(()),

@@ -14,9 +14,10 @@ use mdf_code::{RawFunction, RawFunctions};
 use mpl_ast::class::Formal;
 use mpl_ast::program::Declaration;
 use mpl_ast::statement::{Block, TypeName};
-use mpl_gen_scope::layout::words_of_one;
+use mpl_layout::words::words_of_one;
 use mpl_gen_scope::marks::Marks;
-use mpl_gen_scope::outline::{Outline, is_same};
+use mpl_gen_scope::outline::Outline;
+use mpl_layout::name::is_same;
 use mpl_gen_scope::scope::Finish;
 use mpl_value::NoMemory;
 use std::alloc::Global;
@@ -72,7 +73,7 @@ fn function_of<'o, 'a>(
     requires { FunctionFits (function_image outline.now (marked marks.nodes.now) (record { name = []; function = record { result = result_type.now; formals = formals.now; body = block.now } })) }
     ensures { IfOk result (λ function. function ≡ function_image outline.now (marked marks.entry.nodes.now) (record { name = []; function = record { result = result_type.now; formals = formals.now; body = block.now } })) }
 {
-    let words = words_of_one(outline, result_type);
+    let words = words_of_one(outline.layout(), result_type);
     let finish = Finish::OfFunction(words, block.mark_line);
     let object = Object {
         class: None,

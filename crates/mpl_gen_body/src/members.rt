@@ -8,16 +8,17 @@ ghost use Rattle.mpl_gen_code.specs.ProgramImage.{member_image, members_image, r
 ghost use Rattle.mpl_gen_body.specs.ImageFits.{MemberFits};
 ghost use Rattle.mpl_gen_body.specs.Internal.Fitting.{ItemFits};
 ghost use Rattle.mpl_gen_body.specs.Internal.Surroundings.{Sees};
-ghost use Rattle.mpl_gen_scope.specs.Bounds.{StateFits};
-ghost use Rattle.mpl_gen_scope.specs.SeenClasses.{class_seen};
+ghost use Rattle.mpl_layout.specs.Bounds.{StateFits};
+ghost use Rattle.mpl_layout.specs.SeenClasses.{class_seen};
 ghost use Rattle.mpl_gen_scope.specs.SeenMarks.{marked};
 
 use crate::bodies::{Object, code_of_body, formals_of};
 use mdf_code::{RawMember, RawMembers};
 use mpl_ast::class::{Formal, Item, ResultType};
 use mpl_ast::statement::Block;
-use mpl_gen_scope::class::Class;
-use mpl_gen_scope::layout::{parts_of_items, words_of_one};
+use mpl_layout::class::Class;
+use mpl_layout::parts::parts_of_items;
+use mpl_layout::words::words_of_one;
 use mpl_gen_scope::marks::Marks;
 use mpl_gen_scope::outline::Outline;
 use mpl_gen_scope::scope::Finish;
@@ -59,7 +60,7 @@ fn add_class<'o, 'a>(
         };
         return add_members(alloc, outline, marks, members, class, object);
     }
-    let parts = parts_of_items(alloc, outline, class.items)?;
+    let parts = parts_of_items(alloc, outline.layout(), class.items)?;
     let object = Object {
         class: Some(class),
         parts: parts.as_slice(),
@@ -153,6 +154,6 @@ fn result_of<'a>(outline: &Outline<'a>, result_type: &'a ResultType) -> Option<u
 {
     match result_type {
         ResultType::Void(_) => None,
-        ResultType::Typed(_, type_name) => Some(words_of_one(outline, type_name) as u32),
+        ResultType::Typed(_, type_name) => Some(words_of_one(outline.layout(), type_name) as u32),
     }
 }

@@ -6,7 +6,7 @@ ghost use Rattle.mpl_gen_code.specs.Scopes.{with_hidden, with_variable};
 ghost use Rattle.mpl_gen_scope.specs.SeenLocals.{shape_seen};
 ghost use Rattle.mpl_gen_scope.specs.SeenScope.{env_seen};
 
-use mpl_gen_scope::layout::words_of;
+use mpl_layout::words::words_of;
 use mpl_gen_scope::locals::{Shape, Slot};
 use mpl_gen_scope::scope::Scope;
 use mpl_value::NoMemory;
@@ -15,7 +15,7 @@ use mpl_value::NoMemory;
 pub fn declare<'o, 'a>(scope: &mut Scope<'o, 'a>, shape: Shape<'a>) -> Result<(), NoMemory>
     ensures { OnOk result (env_seen scope.new ≡ with_variable (shape_seen shape.entry) (env_seen scope.old)) }
 {
-    let words = words_of(scope.outline, shape.type_name, shape.dimension);
+    let words = words_of(scope.outline.layout(), shape.type_name, shape.dimension);
     let number = scope.sizes.len();
     scope.locals.declare(Slot { number, shape })?;
     scope.sizes.push(words)

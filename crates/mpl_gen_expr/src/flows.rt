@@ -11,7 +11,7 @@ ghost use Rattle.mpl_gen_code.specs.Scopes.{class_found, whole_slot};
 ghost use Rattle.mpl_gen_expr.specs.ByNumber.{own_by, post_by, send_by};
 ghost use Rattle.mpl_gen_expr.specs.RowCodes.{all_flows, codes_of_flows};
 ghost use Rattle.mpl_gen_expr.specs.Texts.{written};
-ghost use Rattle.mpl_gen_scope.specs.SeenClasses.{class_seen};
+ghost use Rattle.mpl_layout.specs.SeenClasses.{class_seen};
 ghost use Rattle.mpl_gen_scope.specs.SeenLocals.{slot_seen};
 ghost use Rattle.mpl_gen_scope.specs.SeenScope.{env_seen, found_seen};
 
@@ -24,10 +24,10 @@ use crate::places::read;
 use mdf_code::Instr;
 use mpl_ast::expression::{Expression, Place, Primary, Target};
 use mpl_ast::flow::{Call, Flow};
-use mpl_gen_scope::class::Class;
+use mpl_layout::class::Class;
 use mpl_gen_scope::found::Found;
 use mpl_gen_scope::locals::Slot;
-use mpl_gen_scope::outline::member_id;
+use mpl_layout::members::member_id;
 use mpl_gen_scope::scope::{Scope, class_found, found_at, own_member};
 use mpl_value::NoMemory;
 

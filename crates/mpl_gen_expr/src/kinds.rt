@@ -11,7 +11,7 @@ use mpl_ast::expression::{
     Conjunction, Equality, Expression, Place, Primary, Relation, Sum, Term, Unary, UnaryOperator,
 };
 use mpl_gen_scope::found::Found;
-use mpl_gen_scope::layout::words_of_one;
+use mpl_layout::words::words_of_one;
 use mpl_gen_scope::outline::Outline;
 use mpl_gen_scope::scope::{Scope, found_at, is_bool};
 use mpl_value::NoMemory;
@@ -209,7 +209,7 @@ pub fn kind_of_call<'a>(outline: &Outline<'a>, name: &'a [u8]) -> Kind
 {
     match outline.result_of(name) {
         Some(type_name) => Kind {
-            words: words_of_one(outline, type_name),
+            words: words_of_one(outline.layout(), type_name),
             is_bool: is_bool(type_name),
         },
         None => Kind {

@@ -1,7 +1,4 @@
-pub mod Blocks
-pub mod Bounds
-pub mod Classes
 pub mod Marked
+pub mod Selects
 pub mod Tables
 pub mod Variables
-pub mod Words

@@ -2,11 +2,11 @@
 use Rattle.std.specs.Prelude.{List, [], map, option_map, Option, Some, None}
 use Rattle.mpl_mean.specs.Meaning.Layout.{Member}
 use Rattle.mpl_gen_code.specs.Scopes as code
-use Rattle.mpl_gen_scope.specs.SeenClasses.{class_seen}
+use Rattle.mpl_layout.specs.SeenClasses.{class_seen}
 use Rattle.mpl_gen_scope.specs.SeenLocals.{slot_seen}
 use Rattle.mpl_gen_scope.specs.SeenMarks.{marked}
-use Rattle.mpl_gen_scope.specs.SeenParts.{part_seen}
-use Rattle.mpl_gen_scope.specs.declared.class.Class.{Class}
+use Rattle.mpl_layout.specs.SeenParts.{part_seen}
+use Rattle.mpl_layout.specs.declared.class.Class.{Class}
 use Rattle.mpl_gen_scope.specs.declared.found.Found.{Found}
 use Rattle.mpl_gen_scope.specs.declared.scope.Finish.{Finish}
 use Rattle.mpl_gen_scope.specs.declared.scope.Finish.TheVariants as finish

@@ -2,12 +2,8 @@
 //! variables of the body by theirs.
 #![tactic(auto)]
 
-pub mod class;
 pub mod found;
-pub mod layout;
 pub mod locals;
 pub mod marks;
-pub mod named;
 pub mod outline;
-pub mod part;
 pub mod scope;

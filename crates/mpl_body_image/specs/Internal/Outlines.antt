@@ -1,12 +1,6 @@
 -- Words on what is found among declarations and items.
 use Rattle.std.specs.Prelude.{ℕ, suc, Bool, true, false, Option, Some, None}
 
--- it is found here, or by a higher number, or by this one
-abbrev pub numbered_on : Option Bool → ℕ → Option ℕ → Option ℕ → Option ℕ
-numbered_on None number higher same = same
-numbered_on (Some true) number higher same = Some number
-numbered_on (Some false) number higher same = higher
-
 -- so many members, with this one if it is one
 abbrev pub members_on : Option Bool → ℕ → ℕ
 members_on None others = others

@@ -1,20 +1,10 @@
--- The tables of an outline beside the declarations.
-use Rattle.std.specs.Prelude.{◌≡◌, ℕ, List, map, option_map}
+-- The table of functions beside the declarations.
+use Rattle.std.specs.Prelude.{◌≡◌, ℕ, List}
 use Rattle.mpl_ast.specs.declared.program.Declaration.{Declaration}
-use Rattle.mpl_mean.specs.Meaning.Layout.{Nothing, class_named, classes_of, meant_by}
 use Rattle.mpl_body_code.specs.Codes.{number_of_function}
 use Rattle.mpl_scope.specs.First.{at}
 use Rattle.mpl_scope.specs.declared.first_named.FirstNamed.{FirstNamed}
-use Rattle.mpl_body_image.specs.Internal.Bounds.{Bounded}
-use Rattle.mpl_body_image.specs.Internal.SeenClasses.{class_seen}
-use Rattle.mpl_body_image.specs.Internal.SeenNamed.{named_or}
-use Rattle.mpl_body_image.specs.declared.class.Class.{Class}
-use Rattle.mpl_body_image.specs.declared.named.Named.{Named}
 
--- what is found in a table is what is found along the declarations, whose sizes are within bounds
-pub record Stands (ds : List Declaration) (types : FirstNamed Named) (classes : List Class) (named : FirstNamed Class) (functions : FirstNamed ℕ) : Type 0 where
-  pub types_are : (name : List ℕ) → named_or name (at types name) Nothing ≡ meant_by name ds
-  pub classes_are : map class_seen classes ≡ classes_of ds
-  pub class_is : (name : List ℕ) → option_map class_seen (at named name) ≡ class_named name (classes_of ds)
-  pub function_is : (name : List ℕ) → at functions name ≡ number_of_function 0 name ds
-  pub bounded : Bounded ds
+-- what is found in the table is what is found along the declarations
+abbrev pub Stands : List Declaration → FirstNamed ℕ → Type 0
+Stands ds functions = (name : List ℕ) → at functions name ≡ number_of_function 0 name ds

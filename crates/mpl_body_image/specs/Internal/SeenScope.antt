@@ -3,9 +3,9 @@ use Rattle.std.specs.Prelude.{List, [], map, option_map, Option, Some, None}
 use Rattle.std.specs.Borrow.{Bor}
 use Rattle.mpl_mean.specs.Meaning.Layout.{Member, Part}
 use Rattle.mpl_mean.specs.Plain.Scopes as code
-use Rattle.mpl_body_image.specs.Internal.SeenClasses.{class_seen}
+use Rattle.mpl_layout.specs.SeenClasses.{class_seen}
 use Rattle.mpl_body_image.specs.Internal.SeenLocals.{slot_seen}
-use Rattle.mpl_body_image.specs.Internal.SeenParts.{part_seen}
+use Rattle.mpl_layout.specs.SeenParts.{part_seen}
 use Rattle.mpl_body_image.specs.declared.found.Found.{Found}
 use Rattle.mpl_body_image.specs.declared.scope.Object.{Object}
 use Rattle.mpl_body_image.specs.declared.scope.Scope.{Scope}

@@ -7,7 +7,7 @@ use Rattle.mpl_mean.specs.Meaning.BodyMeaning.{of_object}
 use Rattle.mpl_mean.specs.Meaning.Layout.{Class, Function, parts_of}
 use Rattle.mpl_gen_code.specs.ProgramImage.{body_env}
 use Rattle.mpl_gen_code.specs.Scopes.{Env, Finish}
-use Rattle.mpl_gen_scope.specs.SeenParts.{part_seen}
+use Rattle.mpl_layout.specs.SeenParts.{part_seen}
 use Rattle.mpl_gen_scope.specs.SeenScope.{members_seen}
 use Rattle.mpl_gen_body.specs.declared.bodies.Object.{Object}
 

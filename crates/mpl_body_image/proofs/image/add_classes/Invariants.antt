@@ -1,8 +1,8 @@
 use Rattle.std.proofs.Common.{◌≡◌, ◌++◌, drop, length, map}
 use Rattle.mpl_mean.specs.Laws.Sizes.{Every}
-use Rattle.mpl_body_image.specs.Internal.Bounds.{StateFits}
+use Rattle.mpl_layout.specs.Bounds.{StateFits}
 use Rattle.mpl_body_image.specs.Laid.{class_entries, classes_code}
-use Rattle.mpl_body_image.specs.Internal.SeenClasses.{class_seen}
+use Rattle.mpl_layout.specs.SeenClasses.{class_seen}
 use Rattle.mpl_body_image.proofs.image.add_classes.Given as goal
 
 abbrev pub invariant-loop-class : goal.invariant-loop-class

@@ -3,7 +3,7 @@ use Rattle.mpl_ast.specs.declared.class.Item.{Item}
 use Rattle.mpl_mean.specs.Meaning.Layout.{Member, formals_of, members_from}
 use Rattle.mpl_body_code.specs.declared.instruction.Finish.{Finish}
 use Rattle.mpl_body_code.specs.declared.instruction.MemberCode.{MemberCode}
-use Rattle.mpl_body_image.specs.Internal.SeenClasses.{class_seen}
+use Rattle.mpl_layout.specs.SeenClasses.{class_seen}
 use Rattle.mpl_body_image.specs.Laid.{member_entries, members_code}
 use Rattle.mpl_body_image.proofs.AddingMembers.{code_with, entry_with, member_written}
 use Rattle.mpl_body_image.proofs.image.add_member.Goals as goal

@@ -1,7 +1,7 @@
 use Rattle.std.proofs.Common.{◌≡◌, ◌++◌, drop, length}
 use Rattle.mpl_mean.specs.Meaning.Layout.{members_from}
 use Rattle.mpl_body_image.specs.Laid.{member_entries, members_code}
-use Rattle.mpl_body_image.specs.Internal.SeenClasses.{class_seen}
+use Rattle.mpl_layout.specs.SeenClasses.{class_seen}
 use Rattle.mpl_body_image.proofs.image.add_members.Given as goal
 
 abbrev pub invariant-loop-item : goal.invariant-loop-item

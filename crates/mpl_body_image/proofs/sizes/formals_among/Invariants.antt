@@ -1,6 +1,6 @@
 use Rattle.std.proofs.Common.{◌≡◌, ◌≤◌, ◌+◌, drop, length, option_map}
 use Rattle.mpl_mean.specs.Meaning.Layout.{Member, member_numbered, members_from}
-use Rattle.mpl_body_image.specs.Internal.SeenClasses.{class_seen}
+use Rattle.mpl_layout.specs.SeenClasses.{class_seen}
 use Rattle.mpl_body_image.proofs.sizes.formals_among.Given as goal
 
 abbrev pub invariant-loop-item : goal.invariant-loop-item

@@ -1,6 +1,6 @@
 use Rattle.std.proofs.Common.{map, arith, ap, ◌∙◌}
-use Rattle.mpl_gen_scope.specs.SeenClasses.{class_seen}
-use Rattle.mpl_gen_scope.specs.SeenParts.{part_seen}
+use Rattle.mpl_layout.specs.SeenClasses.{class_seen}
+use Rattle.mpl_layout.specs.SeenParts.{part_seen}
 use Rattle.mpl_gen_body.proofs.Fitting.{few_words}
 use Rattle.mpl_gen_body.proofs.classes.class_of.Goals as goal
 

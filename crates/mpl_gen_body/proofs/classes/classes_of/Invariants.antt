@@ -1,8 +1,9 @@
 use Rattle.std.proofs.Common.{◌≡◌, ◌++◌, drop, map}
 use Rattle.mpl_mean.specs.Laws.Sizes.{Every}
 use Rattle.mpl_gen_code.specs.ProgramImage.{classes_image}
-use Rattle.mpl_gen_scope.specs.Bounds.{StateFits}
-use Rattle.mpl_gen_scope.specs.SeenClasses.{class_seen, select_seen}
+use Rattle.mpl_layout.specs.Bounds.{StateFits}
+use Rattle.mpl_gen_scope.specs.SeenSelects.{select_seen}
+use Rattle.mpl_layout.specs.SeenClasses.{class_seen}
 use Rattle.mpl_gen_body.proofs.classes.classes_of.Given as goal
 
 abbrev pub invariant-loop-class : goal.invariant-loop-class

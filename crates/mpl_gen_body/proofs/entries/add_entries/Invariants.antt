@@ -1,7 +1,7 @@
 use Rattle.std.proofs.Common.{◌≡◌, ◌++◌, drop}
 use Rattle.mpl_mean.specs.Laws.Sizes.{Every}
 use Rattle.mpl_gen_code.specs.ProgramImage.{entries_image}
-use Rattle.mpl_gen_scope.specs.SeenClasses.{class_seen}
+use Rattle.mpl_layout.specs.SeenClasses.{class_seen}
 use Rattle.mpl_gen_body.specs.Internal.Fitting.{ListedFits}
 use Rattle.mpl_gen_body.proofs.entries.add_entries.Given as goal
 

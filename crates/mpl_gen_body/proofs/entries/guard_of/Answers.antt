@@ -6,7 +6,7 @@ use Rattle.mpl_mean.specs.Plain.Expr.{expr_of}
 use Rattle.mpl_gen_code.specs.ExpressionCode.{value_code}
 use Rattle.mpl_gen_code.specs.Scopes.{Env, OfBody}
 use Rattle.mpl_gen_scope.specs.SeenMarks.{marked}
-use Rattle.mpl_gen_scope.specs.SeenParts.{part_seen}
+use Rattle.mpl_layout.specs.SeenParts.{part_seen}
 use Rattle.mpl_gen_scope.specs.SeenScope.{env_seen}
 use Rattle.mpl_gen_expr.specs.Drafts.{InstrFits}
 use Rattle.mpl_gen_body.specs.ImageFits.{GuardFits}

@@ -1,6 +1,6 @@
 use Rattle.std.proofs.Common.{◌∙◌}
 use Rattle.mpl_mean.specs.Meaning.Layout.{member_named}
-use Rattle.mpl_gen_scope.specs.SeenClasses.{class_seen}
+use Rattle.mpl_layout.specs.SeenClasses.{class_seen}
 use Rattle.mpl_gen_body.proofs.MembersNamed.{accepted_is, formals_are, none_is}
 use Rattle.mpl_gen_body.proofs.entries.member_named.Goals as goal
 

@@ -3,7 +3,7 @@ use Rattle.mpl_ast.specs.declared.class.Formal.{Formal}
 use Rattle.mpl_ast.specs.declared.class.Item.{Item}
 use Rattle.mpl_mean.specs.Meaning.Layout.{Member, formals_of, members_from}
 use Rattle.mpl_gen_code.specs.ProgramImage.{member_image}
-use Rattle.mpl_gen_scope.specs.SeenClasses.{class_seen}
+use Rattle.mpl_layout.specs.SeenClasses.{class_seen}
 use Rattle.mpl_gen_scope.specs.SeenMarks.{marked}
 use Rattle.mpl_gen_expr.proofs.Done.{if_written}
 use Rattle.mpl_gen_body.proofs.MembersNamed.{member_added}

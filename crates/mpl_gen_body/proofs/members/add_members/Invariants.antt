@@ -2,7 +2,7 @@ use Rattle.std.proofs.Common.{◌≡◌, ◌++◌, drop, map}
 use Rattle.mpl_mean.specs.Laws.Sizes.{Every}
 use Rattle.mpl_mean.specs.Meaning.Layout.{members_from}
 use Rattle.mpl_gen_code.specs.ProgramImage.{member_image}
-use Rattle.mpl_gen_scope.specs.SeenClasses.{class_seen}
+use Rattle.mpl_layout.specs.SeenClasses.{class_seen}
 use Rattle.mpl_gen_scope.specs.SeenMarks.{marked}
 use Rattle.mpl_gen_body.specs.Internal.Fitting.{ItemFits}
 use Rattle.mpl_gen_body.proofs.members.add_members.Given as goal

@@ -1,8 +1,8 @@
 use Rattle.std.proofs.Common.{◌≡◌, ◌++◌, drop, map}
 use Rattle.mpl_mean.specs.Laws.Sizes.{Every}
 use Rattle.mpl_gen_code.specs.ProgramImage.{members_image}
-use Rattle.mpl_gen_scope.specs.Bounds.{StateFits}
-use Rattle.mpl_gen_scope.specs.SeenClasses.{class_seen}
+use Rattle.mpl_layout.specs.Bounds.{StateFits}
+use Rattle.mpl_layout.specs.SeenClasses.{class_seen}
 use Rattle.mpl_gen_scope.specs.SeenMarks.{marked}
 use Rattle.mpl_gen_body.specs.ImageFits.{MemberFits}
 use Rattle.mpl_gen_body.proofs.members.members_of.Given as goal

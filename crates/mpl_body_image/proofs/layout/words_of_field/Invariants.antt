@@ -1,7 +1,0 @@
-use Rattle.std.proofs.Common.{◌≡◌, ◌+◌, drop}
-use Rattle.mpl_body_image.specs.Internal.Parts.{words_of_field}
-use Rattle.mpl_body_image.proofs.layout.words_of_field.Given as goal
-
--- those so far and those that are left are all
-abbrev pub invariant-loop-name : goal.invariant-loop-name
-invariant-loop-name l = l.words + words_of_field (drop l.name-index l.names) ≡ words_of_field l.names

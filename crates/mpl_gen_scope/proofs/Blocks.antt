@@ -1,1 +1,0 @@
--- What is declared in a block goes with it.

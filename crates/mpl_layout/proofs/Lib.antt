@@ -1,0 +1,4 @@
+pub mod Bounds
+pub mod ClassesInOrder
+pub mod FieldWords
+pub mod Tables
