@@ -1,9 +1,7 @@
 pub mod Tables
 pub mod ByNumbers
-pub mod Blocks
 pub mod Writes
 pub mod Standing
-pub mod Variables
 pub mod Adding
 pub mod AddingMembers
 pub mod HavingCode

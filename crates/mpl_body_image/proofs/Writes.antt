@@ -8,8 +8,9 @@ use Rattle.mpl_mean.specs.Plain.Stmt as stmt
 use Rattle.mpl_mean.specs.Plain.Scopes.{Env, behind}
 use Rattle.mpl_body_code.specs.Codes.{Code, expression_code, loop_code, scope_code, statement_code, statements_code}
 use Rattle.mpl_body_code.specs.declared.instruction.Instruction.TheVariants as instruction
-use Rattle.mpl_body_image.specs.Internal.Writing.{Wrote, WroteAll, WroteCode, left}
-use Rattle.mpl_body_image.proofs.Blocks.{left_all, left_behind}
+use Rattle.mpl_locals.specs.Behind.{left}
+use Rattle.mpl_body_image.specs.Internal.Writing.{Wrote, WroteAll, WroteCode}
+use Rattle.mpl_locals.proofs.Blocks.{left_all, left_behind}
 
 pub if_written : {P Q : Type 0} (r : Result (Unit {0}) NoMemory) → (P → Q) → OnOk r P → OnOk r Q
 if_written (Ok u) f h = f h

@@ -1,5 +1,4 @@
 -- What the private functions say of their results. The contract of `image_of` needs none of it.
-pub mod SeenLocals
 pub mod SeenOutline
 pub mod Outlines
 pub mod SeenScope

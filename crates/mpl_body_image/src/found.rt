@@ -2,7 +2,7 @@
 
 ghost use Rattle.std.specs.Prelude.{◌<◌, ◌≤◌, ◌^◌};
 
-use crate::locals::Slot;
+use mpl_locals::locals::Slot;
 use mpl_ast::statement::TypeName;
 
 /// What a place stands for.

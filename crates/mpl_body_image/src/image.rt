@@ -15,7 +15,7 @@ ghost use Rattle.mpl_layout.specs.SeenClasses.{class_seen};
 
 use mpl_layout::class::Class;
 use mpl_layout::parts::parts_of_items;
-use crate::locals::{Locals, Shape};
+use mpl_locals::locals::{Locals, Shape};
 use crate::outline::Outline;
 use mpl_layout::layout::declarations_of;
 use mpl_layout::name::is_same;

@@ -6,7 +6,6 @@ mod expressions;
 mod flows;
 mod found;
 mod image;
-mod locals;
 mod names;
 mod outline;
 mod scope;

@@ -4,7 +4,7 @@ ghost use Rattle.mpl_mean.specs.Meaning.PlaceMeaning.{is_bool};
 ghost use Rattle.mpl_mean.specs.Plain.Scopes.{class_found, found_at, found_field, found_name, found_part, slot_named};
 ghost use Rattle.mpl_body_code.specs.Scopes.{base_of_slot, spot_of};
 ghost use Rattle.mpl_layout.specs.SeenClasses.{class_seen};
-ghost use Rattle.mpl_body_image.specs.Internal.SeenLocals.{slot_seen};
+ghost use Rattle.mpl_locals.specs.SeenLocals.{slot_seen};
 ghost use Rattle.mpl_layout.specs.SeenParts.{part_seen};
 ghost use Rattle.mpl_body_image.specs.Internal.SeenScope.{env_seen, found_seen, members_seen, parts_seen};
 
@@ -12,7 +12,7 @@ use mpl_layout::class::Class;
 use crate::found::Found;
 use mpl_layout::parts::{part_named, parts_of_type};
 use mpl_layout::words::words_of;
-use crate::locals::{Locals, Slot};
+use mpl_locals::locals::{Locals, Slot};
 use crate::outline::Outline;
 use mpl_layout::members::member_id;
 use mpl_layout::part::Part;

@@ -5,13 +5,14 @@ ghost use Rattle.mpl_body_code.specs.declared.instruction.Instruction.TheVariant
 ghost use Rattle.mpl_mean.specs.Plain.Expr.{expr_of, expr_of_call, expr_of_flow};
 ghost use Rattle.mpl_mean.specs.Plain.Stmt.{Calls, Within, assigns, if_any, locals, new_local, starts, stmt_of, stmts_from};
 ghost use Rattle.mpl_body_image.specs.Internal.SeenScope.{env_seen};
-ghost use Rattle.mpl_body_image.specs.Internal.Writing.{Wrote, WroteAll, WroteCode, left};
+ghost use Rattle.mpl_locals.specs.Behind.{left};
+ghost use Rattle.mpl_body_image.specs.Internal.Writing.{Wrote, WroteAll, WroteCode};
 
 use crate::assignments::{assign, create, give_back, print};
 use crate::expressions::expression;
 use crate::flows::{call, flow};
 use mpl_layout::words::words_of;
-use crate::locals::Shape;
+use mpl_locals::locals::Shape;
 use crate::scope::Scope;
 use mpl_ast::expression::Expression;
 use mpl_ast::flow::{Call, Flow};

@@ -7,9 +7,7 @@ pub mod FlagSets
 pub mod HeadSets
 pub mod Rows
 pub mod BodyMarks
-pub mod Variables
 pub mod Seen
-pub mod Blocks
 pub mod Members
 pub mod Marking
 pub mod Found

@@ -8,8 +8,6 @@ pub mod SeenWays
 pub mod Regular
 pub mod Sights
 pub mod SeenClass
-pub mod SeenLocals
 pub mod SeenScope
-pub mod Scoping
 pub mod Bodies
 pub mod Walking

@@ -9,7 +9,7 @@ ghost use Rattle.mpl_depend.specs.Internal.SeenWays.{ways_seen};
 ghost use Rattle.mpl_depend.specs.Internal.Walking.{Within};
 
 use crate::known::Known;
-use crate::locals::{Locals, Shape};
+use mpl_locals::locals::{Locals, Shape};
 use crate::nesting::{ends_of, no_heads};
 use crate::scope::Scope;
 use crate::sets::clear;

@@ -3,12 +3,12 @@ ghost use Rattle.mpl_mean.specs.Pending.BodyWays.{becomes, event_of, flow_ways, 
 ghost use Rattle.mpl_mean.specs.Pending.Paths.{Only};
 ghost use Rattle.mpl_mean.specs.Plain.Expr.{expr_of, expr_of_call, expr_of_flow, listed};
 ghost use Rattle.mpl_mean.specs.Plain.Scopes.{Slot, whole_slot};
-ghost use Rattle.mpl_depend.specs.Internal.SeenLocals.{slot_seen};
+ghost use Rattle.mpl_locals.specs.SeenLocals.{slot_seen};
 ghost use Rattle.mpl_depend.specs.Internal.SeenScope.{env_seen};
 ghost use Rattle.mpl_depend.specs.Internal.SeenWays.{event_seen, ways_seen};
 
 use crate::expressions::expression;
-use crate::locals::Slot;
+use mpl_locals::locals::Slot;
 use crate::making::{all, only, then};
 use crate::scope::Scope;
 use crate::uses::receives;

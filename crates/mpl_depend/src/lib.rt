@@ -5,7 +5,6 @@ mod bodies;
 mod expressions;
 mod flows;
 mod known;
-mod locals;
 mod making;
 mod nesting;
 mod pend_map;

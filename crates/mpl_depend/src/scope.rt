@@ -1,11 +1,11 @@
 ghost use Rattle.std.specs.Prelude.{◌≡◌, Some, option_map};
 ghost use Rattle.mpl_mean.specs.Plain.Scopes.{found_at, found_name, slot_named};
-ghost use Rattle.mpl_depend.specs.Internal.SeenLocals.{slot_seen};
+ghost use Rattle.mpl_locals.specs.SeenLocals.{slot_seen};
 ghost use Rattle.mpl_depend.specs.Internal.SeenScope.{env_seen, found_seen};
 ghost use Rattle.mpl_depend.specs.Internal.Sights.{sight, sight_part, type_in};
 
 use crate::known::{Known, state_type};
-use crate::locals::{Locals, Slot};
+use mpl_locals::locals::{Locals, Slot};
 use mpl_ast::expression::Target;
 use mpl_ast::statement::TypeName;
 use mpl_scope::kinds::Class;

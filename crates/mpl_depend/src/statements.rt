@@ -4,14 +4,14 @@ ghost use Rattle.mpl_mean.specs.Pending.Paths.{Then, Either};
 ghost use Rattle.mpl_mean.specs.Plain.Expr.{expr_of, expr_of_flow, expr_of_place};
 ghost use Rattle.mpl_mean.specs.Plain.Scopes.{declares, declares_all, found_at, slot_of_target, behind};
 ghost use Rattle.mpl_mean.specs.Plain.Stmt.{Loops, assigns, if_any, locals, new_local, starts, stmt_of, stmts_from};
-ghost use Rattle.mpl_depend.specs.Internal.SeenLocals.{slot_seen};
+ghost use Rattle.mpl_locals.specs.SeenLocals.{slot_seen};
 ghost use Rattle.mpl_depend.specs.Internal.SeenScope.{env_seen};
 ghost use Rattle.mpl_depend.specs.Internal.SeenWays.{ways_seen};
-ghost use Rattle.mpl_depend.specs.Internal.Scoping.{behind_all, left};
+ghost use Rattle.mpl_locals.specs.Behind.{behind_all, left};
 
 use crate::expressions::expression;
 use crate::flows::{becomes, call, flow, forced};
-use crate::locals::{Shape, dimension_of};
+use mpl_locals::locals::Shape;
 use crate::making::{all, either, only, repeated, then};
 use crate::scope::Scope;
 use crate::uses::{creates, uses_target};
@@ -174,12 +174,11 @@ fn declare_one<'a>(
     let number = scope.locals.len();
     match declarator {
         Declarator::Plain(_, name, dimension) => {
-            let dimension = dimension_of(*dimension);
             let name = name.text.as_slice();
             scope.locals.declare(Shape {
                 name,
                 type_name,
-                dimension,
+                dimension: *dimension,
             })?;
             Ok(only(Event::Settles(number)))
         }

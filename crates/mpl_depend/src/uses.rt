@@ -1,13 +1,13 @@
 ghost use Rattle.std.specs.Prelude.{◌≡◌, Some, option_map};
 ghost use Rattle.mpl_mean.specs.Pending.BodyWays.{create_ways, forces, receives, uses};
 ghost use Rattle.mpl_mean.specs.Plain.Scopes.{class_found, found_at};
-ghost use Rattle.mpl_depend.specs.Internal.SeenLocals.{slot_seen};
+ghost use Rattle.mpl_locals.specs.SeenLocals.{slot_seen};
 ghost use Rattle.mpl_depend.specs.Internal.SeenScope.{env_seen, found_seen};
 ghost use Rattle.mpl_depend.specs.Internal.SeenWays.{ways_seen};
 ghost use Rattle.mpl_depend.specs.Internal.Sights.{creates_sight, receives_sight, uses_sight};
 
 use crate::known::Known;
-use crate::locals::Slot;
+use mpl_locals::locals::Slot;
 use crate::making::only;
 use crate::scope::{Found, Scope, found_at};
 use crate::ways::{Event, Ways};

@@ -4,10 +4,10 @@ ghost use Rattle.std.specs.Prelude.{◌≡◌, option_map};
 ghost use Rattle.mpl_mean.specs.FirstForms.ExpressionLevels.{expr_of_conjunction, expr_of_equality, expr_of_primary, expr_of_relation, expr_of_sum, expr_of_term, expr_of_unary};
 ghost use Rattle.mpl_mean.specs.Plain.Expr.{expr_of, expr_of_place};
 ghost use Rattle.mpl_mean.specs.Plain.Scopes.{slot_of_target, whole_slot};
-ghost use Rattle.mpl_depend.specs.Internal.SeenLocals.{slot_seen};
+ghost use Rattle.mpl_locals.specs.SeenLocals.{slot_seen};
 ghost use Rattle.mpl_depend.specs.Internal.SeenScope.{env_seen};
 
-use crate::locals::Slot;
+use mpl_locals::locals::Slot;
 use crate::scope::Scope;
 use mpl_ast::expression::{
     Conjunction, Equality, Expression, Place, Primary, Relation, Sum, Target, Term, Unary,

@@ -4,7 +4,7 @@ use Rattle.std.specs.Borrow.{Bor}
 use Rattle.mpl_mean.specs.Meaning.Layout.{Member, Part}
 use Rattle.mpl_mean.specs.Plain.Scopes as code
 use Rattle.mpl_layout.specs.SeenClasses.{class_seen}
-use Rattle.mpl_body_image.specs.Internal.SeenLocals.{slot_seen}
+use Rattle.mpl_locals.specs.SeenLocals.{slot_seen}
 use Rattle.mpl_layout.specs.SeenParts.{part_seen}
 use Rattle.mpl_body_image.specs.declared.found.Found.{Found}
 use Rattle.mpl_body_image.specs.declared.scope.Object.{Object}

@@ -5,7 +5,7 @@ use Rattle.mpl_ast.specs.declared.program.Declaration.{Declaration}
 use Rattle.mpl_mean.specs.Meaning.Layout.{parts_of, state_of}
 use Rattle.mpl_mean.specs.Plain.Scopes.{Env, Shape}
 use Rattle.mpl_depend.specs.Internal.SeenClass.{items_seen}
-use Rattle.mpl_depend.specs.Internal.SeenLocals.{slot_seen}
+use Rattle.mpl_locals.specs.SeenLocals.{slot_seen}
 use Rattle.mpl_depend.specs.Internal.Sights.{Sight}
 use Rattle.mpl_depend.specs.declared.scope.Found.{Found}
 use Rattle.mpl_depend.specs.declared.scope.Scope.{Scope}

@@ -2,7 +2,7 @@ use Rattle.std.proofs.Common.{◌≡◌, ◌++◌, drop}
 use Rattle.mpl_mean.specs.Plain.Stmt.{stmts_from}
 use Rattle.mpl_body_code.specs.Codes.{statements_code}
 use Rattle.mpl_body_image.specs.Internal.SeenScope.{env_seen}
-use Rattle.mpl_body_image.specs.Internal.Writing.{behind_all}
+use Rattle.mpl_locals.specs.Behind.{behind_all}
 use Rattle.mpl_body_image.proofs.statements.+statement.Given as goal
 
 abbrev pub invariant-statements-loop-node : goal.invariant-statements-loop-node

@@ -2,7 +2,7 @@ use Rattle.std.proofs.Common.{drop, option_map, ap, sym, ◌∙◌, arith}
 use Rattle.mpl_mean.proofs.Lists.{none_left}
 use Rattle.mpl_mean.specs.Plain.Stmt.{if_any, starts, stmt_of, stmts_from}
 use Rattle.mpl_depend.specs.Internal.SeenScope.{env_seen}
-use Rattle.mpl_depend.proofs.Blocks.{left_after, left_after_all}
+use Rattle.mpl_locals.proofs.Blocks.{left_after, left_after_all}
 use Rattle.mpl_depend.proofs.Rows.{grown_ends, stmts_are, stmts_row}
 use Rattle.mpl_depend.proofs.statements.+statement.Goals as goal
 

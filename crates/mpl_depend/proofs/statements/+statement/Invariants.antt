@@ -2,7 +2,7 @@ use Rattle.std.proofs.Common.{◌≡◌, ◌++◌, map, drop}
 use Rattle.mpl_mean.specs.Plain.Stmt.{stmts_from}
 use Rattle.mpl_depend.specs.Internal.SeenScope.{env_seen}
 use Rattle.mpl_depend.specs.Internal.SeenWays.{ways_seen}
-use Rattle.mpl_depend.specs.Internal.Scoping.{behind_all}
+use Rattle.mpl_locals.specs.Behind.{behind_all}
 use Rattle.mpl_depend.proofs.Rows.{stmts_row}
 use Rattle.mpl_depend.proofs.statements.+statement.Given as goal
 

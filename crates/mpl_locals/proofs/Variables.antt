@@ -7,10 +7,18 @@ use Rattle.std.specs.Str.{bytes_eq}
 use Rattle.mpl_mean.proofs.Truth.{some_is}
 use Rattle.mpl_mean.specs.Plain.Scopes as code
 use Rattle.mpl_mean.specs.Plain.Scopes.{slot_named}
-use Rattle.mpl_body_image.specs.Internal.SeenLocals.{Hides, if_any, newest_first, number_named, numbered, shape_seen, shapes_seen}
-use Rattle.mpl_body_image.specs.declared.locals.Local.{Local}
-use Rattle.mpl_body_image.specs.declared.locals.Newest.{Newest}
-use Rattle.mpl_body_image.proofs.Standing.{get_front, get_left}
+use Rattle.mpl_locals.specs.SeenLocals.{Hides, if_any, newest_first, number_named, numbered, shape_seen, shapes_seen}
+use Rattle.mpl_locals.specs.declared.locals.Local.{Local}
+use Rattle.mpl_locals.specs.declared.locals.Newest.{Newest}
+
+get_front : {A : Type 0} (xs ys : List A) (x : A) → slice_get (xs ++ x ∷ ys) (length xs) ≡ Some x
+get_front [] ys x = refl
+get_front (y ∷ xs) ys x = get_front xs ys x
+
+get_left : {A : Type 0} (xs ys : List A) (n : ℕ) (x : A) → slice_get xs n ≡ Some x → slice_get (xs ++ ys) n ≡ Some x
+get_left [] ys n x h = absurd cc
+get_left (y ∷ xs) ys zero x h = h
+get_left (y ∷ xs) ys (suc n) x h = get_left xs ys n x h
 
 pub set_numbered : (b : Bool) (number : Option ℕ) (o p : Option (Option ℕ)) → p ≡ cond b (Some number) o → if_any p ≡ (if b then number else if_any o)
 set_numbered true number o p is = ap if_any is

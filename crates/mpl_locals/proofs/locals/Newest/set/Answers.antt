@@ -2,8 +2,8 @@ use Rattle.std.proofs.Common.{Some}
 use Rattle.std.proofs.lemmas.Map.Text.{hash_map_updates_str}
 use Rattle.std.specs.HashMap.{get_by}
 use Rattle.std.specs.Str.{bytes_eq}
-use Rattle.mpl_body_image.proofs.Variables.{set_numbered}
-use Rattle.mpl_body_image.proofs.locals.Newest.set.Goals as goal
+use Rattle.mpl_locals.proofs.Variables.{set_numbered}
+use Rattle.mpl_locals.proofs.locals.Newest.set.Goals as goal
 
 pub returns-clause-ok : goal.returns-clause-ok
 returns-clause-ok c = λ q.

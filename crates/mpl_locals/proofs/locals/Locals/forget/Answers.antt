@@ -1,7 +1,7 @@
 use Rattle.std.proofs.Common.{◌≡◌, ◌<◌, ◌-◌, ◌++◌, Some, ap, arith, rules, ◌∙◌}
 use Rattle.std.specs.Prelude.{option_to_list, slice_index_or, vec_len}
-use Rattle.mpl_depend.proofs.Variables.{forgot}
-use Rattle.mpl_depend.proofs.locals.Locals.forget.Goals as goal
+use Rattle.mpl_locals.proofs.Variables.{forgot}
+use Rattle.mpl_locals.proofs.locals.Locals.forget.Goals as goal
 
 pub invariant_of-self-then-count-gt0 : goal.invariant_of-self-then-count-gt0
 invariant_of-self-then-count-gt0 c =

@@ -1,8 +1,8 @@
 use Rattle.std.proofs.Common.{ap, sym, ◌∙◌}
 use Rattle.std.specs.Prelude.{slice_get}
 use Rattle.mpl_mean.specs.Plain.Scopes.{slot_named}
-use Rattle.mpl_depend.proofs.Variables.{found_nowhere, found_there, not_named}
-use Rattle.mpl_depend.proofs.locals.Locals.find.Goals as goal
+use Rattle.mpl_locals.proofs.Variables.{found_nowhere, found_there, not_named}
+use Rattle.mpl_locals.proofs.locals.Locals.find.Goals as goal
 
 pub returns-in-Some-local_at : goal.returns-in-Some-local_at
 returns-in-Some-local_at c =

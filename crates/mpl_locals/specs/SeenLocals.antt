@@ -2,14 +2,15 @@
 use Rattle.std.specs.Prelude.{◌≡◌, ℕ, List, [], ◌∷◌, length, map, reverse, Option, Some, None, if◌then◌else◌}
 use Rattle.std.specs.HashMap.{get_by}
 use Rattle.std.specs.Str.{bytes_eq}
+use Rattle.mpl_mean.specs.Meaning.Layout.{dimension_of}
 use Rattle.mpl_mean.specs.Plain.Scopes as code
-use Rattle.mpl_depend.specs.declared.locals.Local.{Local}
-use Rattle.mpl_depend.specs.declared.locals.Newest.{Newest}
-use Rattle.mpl_depend.specs.declared.locals.Shape.{Shape}
-use Rattle.mpl_depend.specs.declared.locals.Slot.{Slot}
+use Rattle.mpl_locals.specs.declared.locals.Local.{Local}
+use Rattle.mpl_locals.specs.declared.locals.Newest.{Newest}
+use Rattle.mpl_locals.specs.declared.locals.Shape.{Shape}
+use Rattle.mpl_locals.specs.declared.locals.Slot.{Slot}
 
 abbrev pub shape_seen : Shape → code.Shape
-shape_seen s = record { name = s.name.now; type = s.type_name.now; dimension = s.dimension }
+shape_seen s = record { name = s.name.now; type = s.type_name.now; dimension = dimension_of s.dimension }
 
 abbrev pub slot_seen : Slot → code.Slot
 slot_seen s = record { number = s.number; shape = shape_seen s.shape }

@@ -1,7 +1,9 @@
+//! The variables of a scope, by their names.
+
 ghost use Rattle.std.specs.Prelude.{◌≡◌, ℕ, List, [], ◌∷◌, ◌-◌, drop, length, option_map, slice_get, if◌then◌else◌, OnErr, OnOk};
 ghost use Rattle.std.specs.Str.{bytes_eq};
 ghost use Rattle.mpl_mean.specs.Plain.Scopes.{slot_named};
-ghost use Rattle.mpl_body_image.specs.Internal.SeenLocals.{numbered, shape_seen, slot_seen};
+ghost use Rattle.mpl_locals.specs.SeenLocals.{numbered, shape_seen, slot_seen};
 
 use mpl_ast::statement::{Dimension, TypeName};
 use mpl_value::NoMemory;
@@ -48,7 +50,7 @@ pub struct Locals<'a> {
 impl<'a> Model for Locals<'a> {
     ghost use Rattle.std.specs.Prelude.{◌≡◌, List, ℕ};
     ghost use Rattle.mpl_mean.specs.Plain.Scopes.{Shape};
-    ghost use Rattle.mpl_body_image.specs.Internal.SeenLocals.{Hides, newest_first, number_named, numbered, shapes_seen};
+    ghost use Rattle.mpl_locals.specs.SeenLocals.{Hides, newest_first, number_named, numbered, shapes_seen};
 
     ghost Value = { List Shape };
 

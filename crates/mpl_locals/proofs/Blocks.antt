@@ -1,11 +1,11 @@
 -- What is declared in a block goes with it.
-use Rattle.std.proofs.Common.{◌≡◌, ◌-◌, List, [], ◌∷◌, ◌++◌, length, drop, append_assoc, arith, refl, ap, sym, ◌∙◌}
+use Rattle.std.proofs.Common.{◌≡◌, ◌-◌, List, [], ◌∷◌, ◌++◌, length, drop, append_assoc, arith, ℕ, refl, ap, ap₂, sym, ◌∙◌}
 use Rattle.std.proofs.lemmas.List.{length-append}
 use Rattle.mpl_ast.specs.declared.statement.TypeName.{TypeName}
 use Rattle.mpl_mean.specs.Plain.Stmt.{NewLocal, NoStmt, MoreStmts, Stmt, Stmts, assigns}
 use Rattle.mpl_mean.specs.Plain.Stmt as stmt
 use Rattle.mpl_mean.specs.Plain.Scopes.{Env, Shape, behind, declares, declares_all, with_scope}
-use Rattle.mpl_body_image.specs.Internal.Writing.{behind_all, left}
+use Rattle.mpl_locals.specs.Behind.{behind_all, left}
 
 -- the same but for variables that are newer
 record Extends (inner outer : Env) : Type 0 where
@@ -64,3 +64,10 @@ left_behind tree env = extended_left (behind tree env) env (behind_extends tree 
 
 pub left_all : (trees : Stmts) (env : Env) → left (length env.scope) (behind_all trees env) ≡ env
 left_all trees env = extended_left (behind_all trees env) env (trees_extend trees env)
+
+-- a statement whose variables go out of scope with it
+pub left_after : (tree : Stmt) (env mid next : Env) (count : ℕ) → count ≡ length env.scope → mid ≡ behind tree env → next ≡ left count mid → next ≡ env
+left_after tree env mid next count many was is = is ∙ ap₂ (λ n (inner : Env). left n inner) many was ∙ left_behind tree env
+
+pub left_after_all : (trees : Stmts) (env mid next : Env) (count : ℕ) → count ≡ length env.scope → mid ≡ behind_all trees env → next ≡ left count mid → next ≡ env
+left_after_all trees env mid next count many was is = is ∙ ap₂ (λ n (inner : Env). left n inner) many was ∙ left_all trees env

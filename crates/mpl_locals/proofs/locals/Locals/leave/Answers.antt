@@ -1,6 +1,6 @@
-use Rattle.mpl_body_image.proofs.Variables.{few_gone, gone_more}
+use Rattle.mpl_locals.proofs.Variables.{few_gone, gone_more}
 use Rattle.std.proofs.Common.{◌+◌, ◌<◌, subst}
-use Rattle.mpl_body_image.proofs.locals.Locals.leave.Goals as goal
+use Rattle.mpl_locals.proofs.locals.Locals.leave.Goals as goal
 
 pub loop-self-preserved : goal.loop-self-preserved
 loop-self-preserved c =

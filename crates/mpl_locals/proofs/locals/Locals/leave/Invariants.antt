@@ -1,5 +1,5 @@
 use Rattle.std.proofs.Common.{◌≡◌, ◌≤◌, ◌-◌, ℕ, drop, length}
-use Rattle.mpl_body_image.proofs.locals.Locals.leave.Given as goal
+use Rattle.mpl_locals.proofs.locals.Locals.leave.Given as goal
 
 -- some of the newest are gone, and not too many
 abbrev pub invariant-loop-self : goal.invariant-loop-self

@@ -1,0 +1,3 @@
+-- What the variables in scope stand for, and which there are behind statements.
+pub mod Behind
+pub mod SeenLocals

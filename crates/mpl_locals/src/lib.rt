@@ -1,0 +1,4 @@
+//! The variables in scope, by their names.
+#![tactic(auto)]
+
+pub mod locals;
