@@ -1,10 +1,11 @@
 -- The statuses that places show, as nodes change.
-use Rattle.std.proofs.Common.{◌≡◌, ◌≢◌, ℕ, zero, suc, ◌-◌, ◌<◌, ◌≤◌, List, [], ◌∷◌, ◌++◌, map, length, refl, ap, ap₂, sym, subst, ◌∙◌, arith, false}
+use Rattle.std.proofs.Common.{◌≡◌, ◌≢◌, ℕ, zero, suc, ◌-◌, ◌<◌, ◌≤◌, List, [], ◌∷◌, ◌++◌, map, length, take, refl, ap, ap₂, sym, subst, ◌∙◌, arith, false}
 use Rattle.std.specs.Prelude.{Some, None, Option, IsSomeAnd, slice_get, slice_set, slice_index_or}
 use Rattle.std.specs.Option.{option_map_or}
 use Rattle.std.proofs.lemmas.Bool.{cases_eq, cases_lt}
 use Rattle.std.proofs.Math.Logic.{⊎_elim}
-use Rattle.std.proofs.lemmas.List.{get_or_append_left, get_or-append_right, get_or-set_same, get_or-set_other, length-map, map-append}
+use Rattle.std.proofs.lemmas.List.{get_or_append_left, get_or-append_right, get_or-set_same, get_or-set_other, length-map, length-append, map-append}
+use Rattle.std.proofs.Math.Seq.{take-append_seam}
 use Rattle.std.proofs.lemmas.Option.{get_or_from_slice_get, slice_get_read}
 use Rattle.slab.specs.Slab.{Slab, get}
 use Rattle.mdf_actor.specs.declared.status.ActorStatus.{ActorStatus}
@@ -128,3 +129,42 @@ tied-set old new places at key p tied here holds others below actor k is = ⊎_e
       let before = sym (get_or-set_other places at actor p place.Ended apart_from) ∙ is in
       subst (λ (n : Option Node). IsSomeAnd n (λ n. n.actor ≡ actor))
       (sym (others k (λ e. apart_from (apart old places tied actor at key (before ∙ ap place.Node e) here)))) (tied actor k before)
+
+-- a place before the last, and the last
+kept-place : (kept : List Place) (p : Place) (actor key : ℕ) → place_of kept actor ≡ place.Node key
+    → (place_of (kept ++ p ∷ []) actor ≡ place.Node key) × (actor < length kept)
+kept-place [] p actor key at = absurd (cc)
+kept-place (q ∷ kept) p zero key at = (at, omega arith)
+kept-place (q ∷ kept) p (suc actor) key at =
+    let rest = kept-place kept p actor key at in (rest.0, omega (arith, rest.1))
+
+pub last-place : (kept : List Place) (p : Place) → place_of (kept ++ p ∷ []) (length kept) ≡ p
+last-place [] p = refl
+last-place (q ∷ kept) p = last-place kept p
+
+-- all of a list but its last item
+pub all-but-last : (kept : List ActorStatus) (newest : ActorStatus) (all : List ActorStatus) → all ≡ kept ++ newest ∷ [] → kept ≡ take (length all - 1) all
+all-but-last kept newest all is =
+    let counted : length all - 1 ≡ length kept = omega (arith, ap length is ∙ length-append kept (newest ∷ [])) in
+    sym (ap₂ take counted is ∙ take-append_seam kept (newest ∷ []))
+
+-- the others' nodes, where that of the newest goes
+others-stay : (old new : Slab Node) (kept : List Place) (at : ℕ) → IsTied old (kept ++ place.Node at ∷ [])
+    → ((key : ℕ) → key ≢ at → get new key ≡ get old key) → (actor key : ℕ) → place_of kept actor ≡ place.Node key → get new key ≡ get old key
+others-stay old new kept at tied others actor key is =
+    let here = kept-place kept (place.Node at) actor key is in
+    others key (λ e. absurd (omega (arith, here.1, apart old (kept ++ place.Node at ∷ []) tied actor (length kept) key here.0 (last-place kept (place.Node at) ∙ ap place.Node (sym e)))))
+
+-- without the newest actor
+pub tied-fewer : (old new : Slab Node) (kept : List Place) (at : ℕ) → IsTied old (kept ++ place.Node at ∷ [])
+    → ((key : ℕ) → key ≢ at → get new key ≡ get old key) → IsTied new kept
+tied-fewer old new kept at tied others actor key is =
+    subst (λ (n : Option Node). IsSomeAnd n (λ n. n.actor ≡ actor)) (sym (others-stay old new kept at tied others actor key is))
+    (tied actor key (kept-place kept (place.Node at) actor key is).0)
+
+pub statuses-fewer : (old new : Slab Node) (kept : List Place) (at : ℕ) (statuses : List ActorStatus) → IsTied old (kept ++ place.Node at ∷ [])
+    → ((key : ℕ) → key ≢ at → get new key ≡ get old key) → map (status_at old) (kept ++ place.Node at ∷ []) ≡ statuses
+    → map (status_at new) kept ≡ take (length statuses - 1) statuses
+statuses-fewer old new kept at statuses tied others is =
+    statuses-same old new kept (others-stay old new kept at tied others)
+    ∙ all-but-last (map (status_at old) kept) (status_at old (place.Node at)) statuses (sym is ∙ map-append (status_at old) kept (place.Node at ∷ []))

@@ -1,4 +1,4 @@
-ghost use Rattle.std.specs.Prelude.{◌≡◌, ◌-◌, ◌^◌, ◌<◌, Some, IfOk, IsSomeAnd, OnOk, OnErr, [], ◌∷◌, ◌++◌, false, length, slice_get, slice_set};
+ghost use Rattle.std.specs.Prelude.{◌≡◌, ◌-◌, ◌^◌, ◌<◌, Some, IfOk, IsSomeAnd, OnOk, OnErr, [], ◌∷◌, ◌++◌, false, length, slice_get, slice_set, take, List};
 ghost use Rattle.mdf_actor.specs.Statuses.{is_over};
 
 use crate::node::{Node, Place, change};
@@ -58,6 +58,22 @@ impl Actors {
         })?;
         self.places.push_reserved(Place::Node(key));
         Ok(actor)
+    }
+
+    /// Takes the newest actor out again, as if it hadn't been added.
+    pub fn withdraw(&mut self)
+        requires { 0 < length self.old }
+        ensures rest { self.new ≡ take (length self.old - 1) self.old }
+
+        // The same, where it is known what was added.
+        ensures undone { (kept : List ActorStatus) (newest : ActorStatus) → self.old ≡ kept ++ newest ∷ [] → self.new ≡ kept }
+    {
+        let Some(place) = self.places.pop() else {
+            unreachable!()
+        };
+        if let Place::Node(key) = place {
+            self.nodes.remove(key);
+        }
     }
 
     pub fn status(&self, actor: u32) -> ActorStatus
