@@ -64,3 +64,22 @@ fn forwarded_result_becomes_known(rt: HostRuntime) -> Result<(), Fail> {
     );
     Ok(())
 }
+
+#[test]
+fn ports_of_a_new_actor_wait(rt: HostRuntime) -> Result<(), Fail> {
+    let known = one_word(rt.alloc(), 7)?;
+    let mut futures = Futures::new(rt.alloc());
+    futures.open(4)?;
+    futures.open_with(9, [None, Some(4)].as_slice())?;
+    assert_eq!(rt; futures.state(9), ResultState::Open);
+    assert_eq!(rt; futures.due_at(0), None);
+    futures.give(4, Give::Known(known));
+    assert_eq!(rt;
+        futures.take_at(0),
+        Some(Due {
+            consumer: SECOND,
+            from: 4
+        })
+    );
+    Ok(())
+}

@@ -1,2 +1,4 @@
 mod Entries
 mod Queues
+pub mod Inserted
+mod Opening

@@ -1,13 +1,10 @@
 -- What is due follows from the calls: an actor's result is known where it was settled, and else has the consumers that
 -- were added to it.
 use Rattle.std.proofs.Common.{◌≡◌, ℕ, Bool, true, false, List, [], ◌∷◌, ◌++◌, refl, ap, ap₂, sym, subst, ◌∙◌}
-use Rattle.std.specs.Prelude.{cond, Option, Some, None, IsSome, ◌||◌, if◌then◌else◌, remove}
+use Rattle.std.specs.Prelude.{Option, Some, None, IsSome, ◌||◌, if◌then◌else◌, remove}
 use Rattle.std.specs.Option.{option_map_or}
-use Rattle.std.specs.declared.cmp.Ordering.{Ordering}
-use Rattle.std.specs.declared.cmp.Ordering.TheVariants.{Less, Equal, Greater}
-use Rattle.std.specs.Ordering.{nat_cmp, eq_by_cmp, is_eq}
-use Rattle.std.specs.Cmp.{nat_cmp_total, eq_by_cmp_equiv}
-use Rattle.std.specs.FinMap.{FinMap, get, insert, get-insert, get-empty, nat_cmp-IsAntisymmetric}
+use Rattle.std.specs.Ordering.{nat_cmp}
+use Rattle.std.specs.FinMap.{FinMap, get, insert, get-empty}
 use Rattle.std.proofs.lemmas.Bool.{cases_eq, ne_eqb, eq-eqb}
 use Rattle.std.proofs.Math.Logic.{⊎_elim}
 use Rattle.mpl_value.specs.declared.known.Known.{Known}
@@ -19,20 +16,8 @@ use Rattle.mdf_future.specs.declared.future.Give.{Give}
 use Rattle.mdf_future.specs.declared.future.Give.TheVariants as give
 use Rattle.mdf_future.specs.Consumers.{deliveries}
 use Rattle.mdf_future.specs.Results.{ResultTable, is_known, may_become, consumers_of, waited_at, given}
+use Rattle.mdf_future.proofs.Inserted.{inserted}
 use Rattle.mdf_future.specs.Calls.{Call, Opens, Waits, Gives, Takes, after, AreAllowed, was_settled, added_to, queue}
-
--- what a map has at a key after an insertion, by whether it is the same
-inserted : (P : Option Future → Type 0) (m : FinMap nat_cmp Future) (a q : ℕ) (f : Future) → (q ≡ a → P (Some f))
-    → ((q ≡ a → ⊥) → P (get m q)) → P (get (insert m a f) q)
-inserted P m a q f same other = subst P (sym (get-insert nat_cmp_total m a f q)) (go (nat_cmp q a) refl) where
-  differ : q ≡ a → eq_by_cmp nat_cmp q a ≡ false → ⊥
-  differ s e =
-      let alike : eq_by_cmp nat_cmp q a ≡ true = ap (eq_by_cmp nat_cmp q) (sym s) ∙ (eq_by_cmp_equiv nat_cmp_total).refl q in absurd (cc)
-
-  go : (o : Ordering) → nat_cmp q a ≡ o → P (cond (is_eq o) (Some f) (get m q))
-  go Less e = other (λ s. differ s (ap is_eq e))
-  go Equal e = same (nat_cmp-IsAntisymmetric q a e)
-  go Greater e = other (λ s. differ s (ap is_eq e))
 
 -- what the results have of an actor, by the calls
 abbrev Told : List Call → ℕ → Option Future → Type 0

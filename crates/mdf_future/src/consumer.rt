@@ -3,7 +3,6 @@ ghost use Rattle.std.specs.VecDeque.{deque_len, deque_capacity};
 ghost use Rattle.mdf_future.specs.Consumers.{is_served, deliveries};
 
 use mdf_match::Tag;
-use mpl_value::Listed;
 use std::collections::VecDeque;
 
 /// Who waits for a result.
@@ -16,8 +15,6 @@ pub enum Consumer {
     /// The result of an actor to which this one was forwarded.
     Result(u32),
 }
-
-pub type Consumers = Listed<Consumer>;
 
 /// A consumer to which a known result is to be delivered.
 #[derive(Clone, Copy, Debug, PartialEq, Eq)]

@@ -1,8 +1,9 @@
-ghost use Rattle.std.specs.Prelude.{◌≡◌, [], ◌∷◌, ◌++◌, OnOk, OnErr};
+ghost use Rattle.std.specs.Prelude.{◌≡◌, [], ◌∷◌, ◌++◌, ◌+◌, ◌-◌, length, take, if◌then◌else◌, OnOk, OnErr};
 ghost use Rattle.std.specs.Option.{option_copied};
 ghost use Rattle.mdf_future.specs.Results.{is_known, known_of, state_of};
 
-use crate::consumer::{Consumer, Consumers};
+use crate::consumer::Consumer;
+use crate::consumers::Consumers;
 use mdf_match::Datum;
 use mpl_value::{Known, NoMemory};
 
@@ -45,6 +46,14 @@ impl Future {
         ensures err { OnErr result (self.new ≡ self.old) }
     {
         self.consumers.push(consumer)
+    }
+
+    /// Takes the newest consumer out, and answers whether there was one.
+    pub(crate) fn leave(&mut self) -> bool
+        ensures rest { self.new ≡ record self.old { consumers = take (length self.old.consumers - 1) self.old.consumers } }
+        ensures one { length self.new.consumers + (if result then 1 else 0) ≡ length self.old.consumers }
+    {
+        self.consumers.pop()
     }
 
     pub(crate) fn forward(&mut self, other: u32)

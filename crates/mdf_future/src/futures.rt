@@ -1,12 +1,15 @@
-ghost use Rattle.std.specs.Prelude.{◌≡◌, ◌<◌, Some, None, IsTrue, IsSome, OnOk, OnErr, [], length, slice_get, remove};
+ghost use Rattle.std.specs.Prelude.{◌≡◌, ◌+◌, ◌<◌, ◌≤◌, Some, None, IsTrue, IsSome, OnOk, OnErr, [], length, slice_get, remove};
 ghost use Rattle.std.specs.Option.{option_map, option_map_or, option_copied};
 ghost use Rattle.std.specs.FinMap as map;
 ghost use Rattle.mdf_match.specs.Data.{HasFewWords, seen_of};
 ghost use Rattle.mdf_future.specs.Results.{ResultTable, state_of, known_of, known_at, known_words, may_give, GivesFewWords, opened, waited, given, settled, forwarded};
+ghost use Rattle.mdf_future.specs.Openings.{HaveResults, opened_with, opened_from};
+ghost use Rattle.mdf_future.specs.Internal.Newest.{without_newest};
 
-use crate::consumer::{Consumer, Consumers, Due, deliver};
+use crate::consumer::{Consumer, Due, deliver};
+use crate::consumers::Consumers;
 use crate::future::{Fate, Future, Give, ResultState};
-use mdf_match::{Datum, Seen};
+use mdf_match::{Datum, Seen, Tag};
 use mpl_value::NoMemory;
 use std::alloc::Global;
 use std::collections::{BTreeMap, VecDeque};
@@ -87,6 +90,18 @@ impl Futures {
         Ok(())
     }
 
+    /// The open result of one more actor, each port of which waits for the result that is passed there, if any. Of a
+    /// result that is known the port is due at once.
+    pub fn open_with(&mut self, actor: u32, ports: &[Option<u32>]) -> Result<(), NoMemory>
+        requires new { map.get self.old.results actor ≡ None }
+        requires there { HaveResults self.old ports.now }
+        requires few { length ports.now ≤ 16 }
+        ensures ok { OnOk result (self.new ≡ opened_with self.old actor ports.now) }
+        ensures err { OnErr result (self.new ≡ self.old) }
+    {
+        self.open_from(actor, 0, ports)
+    }
+
     /// Settles a result, or forwards it. The consumers of a result that becomes known are due from then on, in the
     /// order in which they were added and behind all others; a parked actor is never due.
     pub fn give(&mut self, actor: u32, give: Give)
@@ -135,6 +150,43 @@ impl Futures {
         ensures { slice_get (known_words self.now actor) at ≡ Some result }
     {
         self.datum(actor).unwrap().word(at)
+    }
+
+    /// The ports from this one on.
+    fn open_from(&mut self, actor: u32, port: u32, ports: &[Option<u32>]) -> Result<(), NoMemory>
+        requires new { map.get self.old.results actor ≡ None }
+        requires there { HaveResults self.old ports.now }
+        requires few { port + length ports.now ≤ 16 }
+        ensures ok { OnOk result (self.new ≡ opened_from self.old actor port ports.now) }
+        ensures err { OnErr result (self.new ≡ self.old) }
+    {
+        let Some((passed, others)) = ports.split_first() else {
+            return self.open(actor);
+        };
+        let Some(on) = *passed else {
+            return self.open_from(actor, port + 1, others);
+        };
+        self.wait(on, Consumer::Port(Tag { actor, port }))?;
+        if let Err(why) = self.open_from(actor, port + 1, others) {
+            self.take_back(on);
+            return Err(why);
+        }
+        Ok(())
+    }
+
+    /// Takes the newest consumer of a result out again, as if it hadn't been added.
+    fn take_back(&mut self, on: u32)
+        requires { IsSome (map.get self.old.results on) }
+        ensures { self.new ≡ without_newest self.old on }
+    {
+        let Some(future) = self.results.get_mut(&on) else {
+            unreachable!()
+        };
+        if future.fate.is_known() {
+            self.due.pop_back();
+        } else if future.leave() {
+            self.waiting -= 1;
+        }
     }
 
     fn settle(&mut self, actor: u32, datum: Datum)

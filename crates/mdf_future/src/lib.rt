@@ -2,11 +2,13 @@
 #![tactic(auto)]
 
 mod consumer;
+mod consumers;
 mod future;
 mod futures;
 mod law;
 
-pub use consumer::{Consumer, Consumers, Due};
+pub use consumer::{Consumer, Due};
+pub use consumers::Consumers;
 pub use future::{Fate, Future, Give, ResultState};
 pub use futures::Futures;
 pub use law::{each_consumer_is_due_once, few_calls};
