@@ -11,3 +11,6 @@ pub mod Agreeing
 pub mod Spending
 pub mod Orders
 pub mod PlainImages
+pub mod FittingFrames
+pub mod FittingLogs
+pub mod HandedOut

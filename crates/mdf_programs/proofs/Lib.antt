@@ -1,5 +1,3 @@
-pub mod FittingFrames
-pub mod FittingLogs
 pub mod NumberedMembers
 pub mod ProgramStarts
 pub mod ProgramRuns

@@ -45,7 +45,7 @@ use Rattle.mdf_drive.proofs.PlainImages.{regular_images_are_plain}
 use Rattle.mdf_drive.proofs.Plainness.{all_plain, main_call_is}
 use Rattle.mdf_drive.proofs.Tallies.{plain_start}
 use Rattle.mdf_programs.specs.ProgramJobs.{HasRegularClasses, job_of}
-use Rattle.mdf_programs.proofs.FittingLogs.{actor_starts, arguments_fit, starts_fit}
+use Rattle.mdf_drive.proofs.FittingLogs.{actor_starts, arguments_fit, starts_fit}
 use Rattle.mdf_programs.proofs.NumberedMembers.{found_member, of_member}
 
 -- a member of a regular class starts with the words of its formals, and with no state

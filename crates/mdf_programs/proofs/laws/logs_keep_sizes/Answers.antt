@@ -1,4 +1,4 @@
-use Rattle.mdf_programs.proofs.FittingLogs.{arguments_fit, results_fit, starts_fit}
+use Rattle.mdf_drive.proofs.FittingLogs.{arguments_fit, results_fit, starts_fit}
 use Rattle.mdf_programs.proofs.laws.logs_keep_sizes.Goals as goal
 
 pub returns-clause-starts : goal.returns-clause-starts

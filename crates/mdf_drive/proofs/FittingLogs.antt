@@ -45,7 +45,7 @@ use Rattle.mdf_drive.specs.AtRest.{call_seen, result_seen}
 use Rattle.mdf_drive.proofs.Plainness.{main_call_is}
 use Rattle.mdf_drive.proofs.SeenArguments.{seen_all}
 use Rattle.mdf_drive.proofs.Tallies.{none_unknown}
-use Rattle.mdf_programs.proofs.FittingFrames.{AllKeep, HaltFits, TellsWell, halt_fits, keeps_first, keeps_on}
+use Rattle.mdf_drive.proofs.FittingFrames.{AllKeep, HaltFits, TellsWell, halt_fits, keeps_first, keeps_on}
 
 -- ---- values
 
@@ -330,3 +330,12 @@ arguments_fit job log h c member here is named = (starts_well job (after job log
 pub results_fit : (job : Job) (log : Log) → IsLog job log → (c : ℕ) (member : MemberId) → c < (after job log).count → ((after job log).actors c).call.member ≡ Some member
     → ArgFits (words_of_result job.image member.0) (result_seen (after job log) (Some c))
 results_fit job log h c member here = gives_well job (after job log) (logged job log h) c here (starts_well job (after job log) (logged job log h) c here) member
+
+-- where the frame of an actor halts next it has its sizes, and so has what it hands out
+pub halts_fit : (job : Job) (log : Log) → IsLog job log → (c : ℕ) → c < (after job log).count → has_begun ((after job log).actors c).status ≡ true
+    → (stood : Stood) → HaltsNext job.image ((after job log).actors c).start ((after job log).actors c).told stood
+    → HaltFits job.image ((after job log).actors c).start (call_seen (after job log) c) stood.halt stood.frame
+halts_fit job log h c here is stood halts =
+    let w = after job log in let r = logged job log h in
+    halt_fits job.image (w.actors c).start (call_seen w c) (w.actors c).told
+    (walk job w r c here (starts_well job w r c here is).start (λ d newer. gives_well job w r d) (w.actors c).told (r.so c here)).keeps stood halts

@@ -47,7 +47,7 @@ module _ (image : RawImage) (start : BodyStart) (will : ℕ → Arg) where
   StopFits (Needs value) g = Fits g
   StopFits (Creates class) g = Fits g
   StopFits (Ends line) g = Fits g
-  StopFits Strays g = Unit {0}
+  StopFits Strays g = Fits g
   StopFits (Traps trap) g = Fits g
 
   abbrev FitsNext : Next Held → Type 0
@@ -67,7 +67,7 @@ module _ (image : RawImage) (start : BodyStart) (will : ℕ → Arg) where
   next_fits knows f fits (Stops (Needs value) g) later stays here seen = subst Fits here.here fits
   next_fits knows f fits (Stops (Creates class) g) later stays here seen = subst (λ (n : Next Held). NextFits fitted (next_seen (seen_by will) n)) (sym stays) seen
   next_fits knows f fits (Stops (Ends line) g) later stays here seen = subst (λ (n : Next Held). NextFits fitted (next_seen (seen_by will) n)) (sym stays) seen
-  next_fits knows f fits (Stops Strays g) later stays here seen = tt
+  next_fits knows f fits (Stops Strays g) later stays here seen = subst Fits here fits
   next_fits knows f fits (Stops (Traps trap) g) later stays here seen = subst (λ (n : Next Held). NextFits fitted (next_seen (seen_by will) n)) (sym stays) seen
 
   module _ (knows : ℕ → Arg) (less : (r : ℕ) → Stays (knows r) (will r)) where
