@@ -14,3 +14,4 @@ pub mod PlainImages
 pub mod FittingFrames
 pub mod FittingLogs
 pub mod HandedOut
+pub mod DriveOrders

@@ -1,3 +1,4 @@
 pub mod Plain
 pub mod AtRest
 pub mod Handing
+pub mod DriveOrder

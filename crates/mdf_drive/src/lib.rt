@@ -1,9 +1,11 @@
 //! Why the order of events doesn't matter: logs at rest say what the direct run says.
 #![tactic(auto)]
 
+mod driving;
 mod handing;
 mod laws;
 
+pub use driving::tokens_are_matched_and_actors_go_on;
 pub use handing::frames_hand_out_little;
 pub use laws::{
     actors_fire_where_arguments_are_known, logs_at_rest_are_the_direct_run,
