@@ -7,7 +7,6 @@ ghost use Rattle.mpl_mean.specs.Plain.Stmt.{assigns};
 ghost use Rattle.mpl_layout.specs.SeenClasses.{class_seen};
 ghost use Rattle.mpl_body_image.specs.Internal.SeenScope.{env_seen, found_seen};
 
-use mpl_layout::class::Class;
 use crate::expressions::expression;
 use crate::flows::flow;
 use crate::found::Found;
@@ -15,6 +14,7 @@ use crate::scope::{Scope, class_found, found_at, spot_of};
 use mpl_ast::expression::{Expression, Place, Target};
 use mpl_ast::flow::{Assignment, Flow};
 use mpl_body_code::{Code, Instruction};
+use mpl_layout::class::Class;
 use mpl_value::NoMemory;
 
 pub fn assign<'o, 'a>(

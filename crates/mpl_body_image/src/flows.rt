@@ -9,15 +9,15 @@ ghost use Rattle.mpl_body_image.specs.Internal.ByNumber.{object_by, own_by, regu
 ghost use Rattle.mpl_layout.specs.SeenClasses.{class_seen};
 ghost use Rattle.mpl_body_image.specs.Internal.SeenScope.{env_seen, found_seen};
 
-use mpl_layout::class::Class;
 use crate::expressions::{expression, read};
 use crate::found::Found;
 use crate::names::whole_name;
-use mpl_layout::members::member_id;
 use crate::scope::{Scope, class_found, found_at, own_member};
 use mpl_ast::expression::Expression;
 use mpl_ast::flow::{Call, Flow};
 use mpl_body_code::{Code, Instruction};
+use mpl_layout::class::Class;
+use mpl_layout::members::member_id;
 use mpl_value::NoMemory;
 
 #[cycle(flow)]

@@ -2,8 +2,8 @@
 
 ghost use Rattle.std.specs.Prelude.{◌<◌, ◌≤◌, ◌^◌};
 
-use mpl_locals::locals::Slot;
 use mpl_ast::statement::TypeName;
+use mpl_locals::locals::Slot;
 
 /// What a place stands for.
 #[derive(Clone, Copy)]

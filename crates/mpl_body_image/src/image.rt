@@ -13,18 +13,18 @@ ghost use Rattle.mpl_body_image.specs.Internal.Bodies.{Sees, env_with, is_main, 
 ghost use Rattle.mpl_layout.specs.Bounds.{StateFits};
 ghost use Rattle.mpl_layout.specs.SeenClasses.{class_seen};
 
-use mpl_layout::class::Class;
-use mpl_layout::parts::parts_of_items;
-use mpl_locals::locals::{Locals, Shape};
 use crate::outline::Outline;
-use mpl_layout::layout::declarations_of;
-use mpl_layout::name::is_same;
 use crate::scope::{Object, Scope, is_bool};
 use crate::statements::body;
 use mpl_ast::class::{Formal, Formals, Item, ResultType};
 use mpl_ast::program::Declaration;
 use mpl_ast::statement::Statement;
 use mpl_body_code::{Code, Finish, FunctionCode, Image, MemberCode};
+use mpl_layout::class::Class;
+use mpl_layout::layout::declarations_of;
+use mpl_layout::name::is_same;
+use mpl_layout::parts::parts_of_items;
+use mpl_locals::locals::{Locals, Shape};
 use mpl_mean::Typed;
 use mpl_value::NoMemory;
 use std::alloc::Global;

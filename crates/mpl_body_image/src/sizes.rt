@@ -6,12 +6,12 @@ ghost use Rattle.mpl_mean.specs.Meaning.Layout.{Class as Inner, Member, member_n
 ghost use Rattle.mpl_body_image.specs.Internal.Outlines.{found_on, members_on};
 ghost use Rattle.mpl_layout.specs.SeenClasses.{class_seen};
 
-use mpl_layout::class::Class;
 use crate::image::formals_of;
-use mpl_layout::words::words_of;
 use crate::outline::Outline;
-use mpl_layout::layout::declarations_of;
 use mpl_ast::class::{Formal, Item};
+use mpl_layout::class::Class;
+use mpl_layout::layout::declarations_of;
+use mpl_layout::words::words_of;
 use mpl_mean::Typed;
 use mpl_value::{MemberId, NoMemory};
 use std::alloc::Global;

@@ -11,13 +11,13 @@ ghost use Rattle.mpl_body_image.specs.Internal.Writing.{Wrote, WroteAll, WroteCo
 use crate::assignments::{assign, create, give_back, print};
 use crate::expressions::expression;
 use crate::flows::{call, flow};
-use mpl_layout::words::words_of;
-use mpl_locals::locals::Shape;
 use crate::scope::Scope;
 use mpl_ast::expression::Expression;
 use mpl_ast::flow::{Call, Flow};
 use mpl_ast::statement::{Block, Declarator, ForHead, ForStart, Local, Statement, TypeName};
 use mpl_body_code::{Code, Instruction};
+use mpl_layout::words::words_of;
+use mpl_locals::locals::Shape;
 use mpl_value::NoMemory;
 
 /// The statements of a body, and its end.

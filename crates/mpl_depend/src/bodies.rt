@@ -9,7 +9,6 @@ ghost use Rattle.mpl_depend.specs.Internal.SeenWays.{ways_seen};
 ghost use Rattle.mpl_depend.specs.Internal.Walking.{Within};
 
 use crate::known::Known;
-use mpl_locals::locals::{Locals, Shape};
 use crate::nesting::{ends_of, no_heads};
 use crate::scope::Scope;
 use crate::sets::clear;
@@ -20,6 +19,7 @@ use crate::width::places;
 use mpl_ast::class::{Formal, Item};
 use mpl_ast::program::Declaration;
 use mpl_ast::statement::Statement;
+use mpl_locals::locals::{Locals, Shape};
 use mpl_scope::kinds::Class;
 use mpl_scope::members::formals_of;
 use mpl_scope::outline::is_regular;

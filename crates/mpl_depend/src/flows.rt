@@ -8,7 +8,6 @@ ghost use Rattle.mpl_depend.specs.Internal.SeenScope.{env_seen};
 ghost use Rattle.mpl_depend.specs.Internal.SeenWays.{event_seen, ways_seen};
 
 use crate::expressions::expression;
-use mpl_locals::locals::Slot;
 use crate::making::{all, only, then};
 use crate::scope::Scope;
 use crate::uses::receives;
@@ -16,6 +15,7 @@ use crate::ways::{Event, Ways};
 use crate::wholes::whole;
 use mpl_ast::expression::Expression;
 use mpl_ast::flow::{Call, Flow};
+use mpl_locals::locals::Slot;
 use mpl_value::NoMemory;
 
 /// What a flow passes on. A whole variable is passed on as it stands.

@@ -5,9 +5,9 @@ ghost use Rattle.mpl_depend.specs.Internal.SeenScope.{env_seen, found_seen};
 ghost use Rattle.mpl_depend.specs.Internal.Sights.{sight, sight_part, type_in};
 
 use crate::known::{Known, state_type};
-use mpl_locals::locals::{Locals, Slot};
 use mpl_ast::expression::Target;
 use mpl_ast::statement::TypeName;
+use mpl_locals::locals::{Locals, Slot};
 use mpl_scope::kinds::Class;
 use std::alloc::Global;
 

@@ -11,7 +11,6 @@ ghost use Rattle.mpl_locals.specs.Behind.{behind_all, left};
 
 use crate::expressions::expression;
 use crate::flows::{becomes, call, flow, forced};
-use mpl_locals::locals::Shape;
 use crate::making::{all, either, only, repeated, then};
 use crate::scope::Scope;
 use crate::uses::{creates, uses_target};
@@ -20,6 +19,7 @@ use crate::wholes::whole_target;
 use mpl_ast::expression::{Expression, Place, Target};
 use mpl_ast::flow::{Assignment, Flow};
 use mpl_ast::statement::{Block, Declarator, ForHead, ForStart, Local, Statement, TypeName};
+use mpl_locals::locals::Shape;
 use mpl_value::NoMemory;
 use std::alloc::Global;
 

@@ -7,11 +7,11 @@ ghost use Rattle.mpl_depend.specs.Internal.SeenWays.{ways_seen};
 ghost use Rattle.mpl_depend.specs.Internal.Sights.{creates_sight, receives_sight, uses_sight};
 
 use crate::known::Known;
-use mpl_locals::locals::Slot;
 use crate::making::only;
 use crate::scope::{Found, Scope, found_at};
 use crate::ways::{Event, Ways};
 use mpl_ast::expression::Target;
+use mpl_locals::locals::Slot;
 
 /// A use forces a variable. The state is always known.
 fn forces(node: u32, slot: Option<Slot>) -> Ways

@@ -7,11 +7,11 @@ ghost use Rattle.mpl_mean.specs.Plain.Scopes.{slot_of_target, whole_slot};
 ghost use Rattle.mpl_locals.specs.SeenLocals.{slot_seen};
 ghost use Rattle.mpl_depend.specs.Internal.SeenScope.{env_seen};
 
-use mpl_locals::locals::Slot;
 use crate::scope::Scope;
 use mpl_ast::expression::{
     Conjunction, Equality, Expression, Place, Primary, Relation, Sum, Target, Term, Unary,
 };
+use mpl_locals::locals::Slot;
 
 pub fn whole<'a>(scope: &Scope<'a>, node: &'a Expression) -> Option<Slot<'a>>
     ensures { option_map slot_seen result ≡ whole_slot (env_seen scope.now) (expr_of node.now) }

@@ -21,10 +21,10 @@ use mpl_gen_expr::codes::Codes;
 use mpl_gen_expr::draft::Draft;
 use mpl_gen_expr::expressions::expression;
 use mpl_gen_expr::flows::{flow, flow_value};
-use mpl_layout::class::Class;
 use mpl_gen_scope::found::Found;
 use mpl_gen_scope::locals::Slot;
 use mpl_gen_scope::scope::{Scope, class_found, found_at};
+use mpl_layout::class::Class;
 use mpl_value::NoMemory;
 
 pub fn assign<'o, 'a>(

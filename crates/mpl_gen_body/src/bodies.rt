@@ -21,14 +21,14 @@ use mpl_ast::class::{Formal, Formals};
 use mpl_ast::program::Declaration;
 use mpl_ast::statement::{Block, Statement};
 use mpl_gen_expr::codes::Codes;
-use mpl_layout::class::Class;
-use mpl_layout::words::words_of_one;
 use mpl_gen_scope::locals::{Locals, Shape, Slot};
 use mpl_gen_scope::marks::Marks;
 use mpl_gen_scope::outline::Outline;
+use mpl_gen_scope::scope::{Finish, Scope};
+use mpl_layout::class::Class;
 use mpl_layout::name::is_same;
 use mpl_layout::part::Part;
-use mpl_gen_scope::scope::{Finish, Scope};
+use mpl_layout::words::words_of_one;
 use mpl_value::{NoMemory, Numbers};
 use std::alloc::Global;
 

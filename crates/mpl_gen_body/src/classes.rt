@@ -11,10 +11,10 @@ ghost use Rattle.mpl_layout.specs.SeenParts.{part_seen};
 
 use mdf_code::{RawClass, RawClasses};
 use mpl_ast::class::{Entry, Item};
-use mpl_layout::class::Class;
-use mpl_layout::parts::parts_of_items;
 use mpl_gen_scope::outline::Outline;
+use mpl_layout::class::Class;
 use mpl_layout::part::Part;
+use mpl_layout::parts::parts_of_items;
 use mpl_value::NoMemory;
 use std::alloc::Global;
 

@@ -22,14 +22,14 @@ use mpl_ast::class::{Entry, Formal, Item};
 use mpl_ast::expression::Expression;
 use mpl_gen_expr::codes::Codes;
 use mpl_gen_expr::expressions::expression;
-use mpl_layout::class::Class;
-use mpl_layout::parts::parts_of_items;
 use mpl_gen_scope::marks::Marks;
 use mpl_gen_scope::outline::Outline;
+use mpl_gen_scope::scope::Finish;
+use mpl_layout::class::Class;
 use mpl_layout::members::member_id;
 use mpl_layout::name::is_same;
 use mpl_layout::part::Part;
-use mpl_gen_scope::scope::Finish;
+use mpl_layout::parts::parts_of_items;
 use mpl_value::{MemberId, NoMemory};
 use std::alloc::Global;
 

@@ -14,11 +14,11 @@ use mdf_code::{RawFunction, RawFunctions};
 use mpl_ast::class::Formal;
 use mpl_ast::program::Declaration;
 use mpl_ast::statement::{Block, TypeName};
-use mpl_layout::words::words_of_one;
 use mpl_gen_scope::marks::Marks;
 use mpl_gen_scope::outline::Outline;
-use mpl_layout::name::is_same;
 use mpl_gen_scope::scope::Finish;
+use mpl_layout::name::is_same;
+use mpl_layout::words::words_of_one;
 use mpl_value::NoMemory;
 use std::alloc::Global;
 

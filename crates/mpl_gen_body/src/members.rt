@@ -16,12 +16,12 @@ use crate::bodies::{Object, code_of_body, formals_of};
 use mdf_code::{RawMember, RawMembers};
 use mpl_ast::class::{Formal, Item, ResultType};
 use mpl_ast::statement::Block;
-use mpl_layout::class::Class;
-use mpl_layout::parts::parts_of_items;
-use mpl_layout::words::words_of_one;
 use mpl_gen_scope::marks::Marks;
 use mpl_gen_scope::outline::Outline;
 use mpl_gen_scope::scope::Finish;
+use mpl_layout::class::Class;
+use mpl_layout::parts::parts_of_items;
+use mpl_layout::words::words_of_one;
 use mpl_value::NoMemory;
 use std::alloc::Global;
 

@@ -6,9 +6,9 @@ ghost use Rattle.mpl_gen_code.specs.Scopes.{with_hidden, with_variable};
 ghost use Rattle.mpl_gen_scope.specs.SeenLocals.{shape_seen};
 ghost use Rattle.mpl_gen_scope.specs.SeenScope.{env_seen};
 
-use mpl_layout::words::words_of;
 use mpl_gen_scope::locals::{Shape, Slot};
 use mpl_gen_scope::scope::Scope;
+use mpl_layout::words::words_of;
 use mpl_value::NoMemory;
 
 /// One more variable, with the next number.

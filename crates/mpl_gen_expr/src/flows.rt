@@ -24,11 +24,11 @@ use crate::places::read;
 use mdf_code::Instr;
 use mpl_ast::expression::{Expression, Place, Primary, Target};
 use mpl_ast::flow::{Call, Flow};
-use mpl_layout::class::Class;
 use mpl_gen_scope::found::Found;
 use mpl_gen_scope::locals::Slot;
-use mpl_layout::members::member_id;
 use mpl_gen_scope::scope::{Scope, class_found, found_at, own_member};
+use mpl_layout::class::Class;
+use mpl_layout::members::member_id;
 use mpl_value::NoMemory;
 
 #[cycle(flow)]

@@ -11,9 +11,9 @@ use mpl_ast::expression::{
     Conjunction, Equality, Expression, Place, Primary, Relation, Sum, Term, Unary, UnaryOperator,
 };
 use mpl_gen_scope::found::Found;
-use mpl_layout::words::words_of_one;
 use mpl_gen_scope::outline::Outline;
 use mpl_gen_scope::scope::{Scope, found_at, is_bool};
+use mpl_layout::words::words_of_one;
 use mpl_value::NoMemory;
 
 #[derive(Clone, Copy)]

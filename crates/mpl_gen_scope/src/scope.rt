@@ -9,17 +9,17 @@ ghost use Rattle.mpl_gen_scope.specs.SeenLocals.{slot_seen};
 ghost use Rattle.mpl_layout.specs.SeenParts.{part_seen};
 ghost use Rattle.mpl_gen_scope.specs.SeenScope.{env_seen, found_seen, members_seen};
 
-use mpl_layout::class::Class;
 use crate::found::Found;
-use mpl_layout::parts::{part_named, parts_of_type};
-use mpl_layout::words::words_of;
 use crate::locals::{Locals, Slot};
 use crate::marks::Marks;
 use crate::outline::Outline;
-use mpl_layout::members::member_id;
-use mpl_layout::part::Part;
 use mpl_ast::expression::Target;
 use mpl_ast::statement::TypeName;
+use mpl_layout::class::Class;
+use mpl_layout::members::member_id;
+use mpl_layout::part::Part;
+use mpl_layout::parts::{part_named, parts_of_type};
+use mpl_layout::words::words_of;
 use mpl_value::{NoMemory, Numbers};
 use std::alloc::Global;
 

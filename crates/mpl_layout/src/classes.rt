@@ -127,7 +127,10 @@ fn counted(item: &Item) -> u32
 }
 
 /// The first class of each name.
-pub fn by_name<'a>(alloc: Global, classes: &[Class<'a>]) -> Result<FirstNamed<'a, Class<'a>>, NoMemory>
+pub fn by_name<'a>(
+    alloc: Global,
+    classes: &[Class<'a>],
+) -> Result<FirstNamed<'a, Class<'a>>, NoMemory>
     ensures { IfOk result (λ named. (name : List ℕ) → option_map class_seen (at named name) ≡ class_named name (map class_seen classes.now)) }
 {
     let mut named = FirstNamed::new(alloc);
