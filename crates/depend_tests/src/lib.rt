@@ -1,8 +1,7 @@
 //! Tests of the uses that may find a pending result, with the lexer, the parser and the checker below them.
 #![tactic(auto)]
 
-#[cfg(test)]
-mod mains;
+pub mod mains;
 #[cfg(test)]
 mod marked;
 #[cfg(test)]

@@ -20,7 +20,7 @@ use Rattle.mpl_gen_scope.specs.SeenSelects.{select_seen}
 use Rattle.mpl_layout.specs.SeenClasses.{class_seen}
 use Rattle.mpl_layout.specs.declared.class.Class as scope
 use Rattle.mpl_layout.proofs.Bounds.{fields_laid}
-use Rattle.mpl_gen_body.specs.ImageFits.{EntryFits, FunctionFits, MemberFits}
+use Rattle.mpl_gen_bounds.specs.ImageFits.{EntryFits, FunctionFits, MemberFits}
 use Rattle.mpl_gen_body.specs.Internal.Fitting.{DeclarationFits, ItemFits, ListedFits}
 
 pub items_fit : (ds : List Declaration) (marks : ℕ → Bool) (class : Class) (id : ℕ) (items : List Item) → Every MemberFits (map (member_image ds marks class) (members_from id items)) → Every (ItemFits ds marks class) items

@@ -6,3 +6,4 @@ pub mod MembersNamed
 pub mod Rows
 pub mod Seeing
 pub mod Writes
+pub mod Covering

@@ -1,3 +1,3 @@
--- Images whose numbers have 32 bits, and what private functions of the generator say.
-pub mod ImageFits
+-- Which maps cover a program, and what private functions of the generator say.
+pub mod Covers
 pub mod Internal

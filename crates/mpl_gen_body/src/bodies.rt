@@ -9,7 +9,7 @@ ghost use Rattle.mpl_mean.specs.Plain.Stmt.{stmts_from};
 ghost use Rattle.mpl_gen_code.specs.ProgramImage.{code_of_body, main_env, main_stmts};
 ghost use Rattle.mpl_gen_code.specs.Scopes.{formals_from};
 ghost use Rattle.mpl_gen_expr.specs.Drafts.{Fits32};
-ghost use Rattle.mpl_gen_body.specs.ImageFits.{CodeFits};
+ghost use Rattle.mpl_gen_bounds.specs.ImageFits.{CodeFits};
 ghost use Rattle.mpl_gen_body.specs.Internal.Surroundings.{block_of, env_with};
 ghost use Rattle.mpl_scope.specs.First.{or_else};
 ghost use Rattle.mpl_gen_scope.specs.SeenMarks.{marked};

@@ -6,7 +6,7 @@ ghost use Rattle.mpl_ast.specs.declared.class.Item.{Item};
 ghost use Rattle.mpl_mean.specs.Laws.Sizes.{Every};
 ghost use Rattle.mpl_mean.specs.Meaning.Layout.{classes_of, member_named, members_from, natural, parts_of};
 ghost use Rattle.mpl_gen_code.specs.ProgramImage.{all_entries, entries_image, entries_of_select, selects_of};
-ghost use Rattle.mpl_gen_body.specs.ImageFits.{EntryFits, GuardFits};
+ghost use Rattle.mpl_gen_bounds.specs.ImageFits.{EntryFits, GuardFits};
 ghost use Rattle.mpl_gen_body.specs.Internal.Accepting.{accepted_as, accepted_seen, formals_among, guard_with};
 ghost use Rattle.mpl_gen_body.specs.Internal.Fitting.{ListedFits};
 ghost use Rattle.mpl_scope.specs.First.{or_else};

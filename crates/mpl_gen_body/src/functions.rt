@@ -5,7 +5,7 @@ ghost use Rattle.mpl_ast.specs.declared.program.Declaration.{Declaration};
 ghost use Rattle.mpl_mean.specs.Laws.Sizes.{Every};
 ghost use Rattle.mpl_gen_code.specs.ExpressionCode.{PlainFunction, plain_functions};
 ghost use Rattle.mpl_gen_code.specs.ProgramImage.{function_image};
-ghost use Rattle.mpl_gen_body.specs.ImageFits.{FunctionFits};
+ghost use Rattle.mpl_gen_bounds.specs.ImageFits.{FunctionFits};
 ghost use Rattle.mpl_gen_body.specs.Internal.Fitting.{DeclarationFits};
 ghost use Rattle.mpl_gen_scope.specs.SeenMarks.{marked};
 

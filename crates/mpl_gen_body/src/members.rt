@@ -5,7 +5,7 @@ ghost use Rattle.mpl_ast.specs.declared.class.Item.{Item};
 ghost use Rattle.mpl_mean.specs.Laws.Sizes.{Every};
 ghost use Rattle.mpl_mean.specs.Meaning.Layout.{Member, classes_of, members_from};
 ghost use Rattle.mpl_gen_code.specs.ProgramImage.{member_image, members_image, result_image};
-ghost use Rattle.mpl_gen_body.specs.ImageFits.{MemberFits};
+ghost use Rattle.mpl_gen_bounds.specs.ImageFits.{MemberFits};
 ghost use Rattle.mpl_gen_body.specs.Internal.Fitting.{ItemFits};
 ghost use Rattle.mpl_gen_body.specs.Internal.Surroundings.{Sees};
 ghost use Rattle.mpl_layout.specs.Bounds.{StateFits};

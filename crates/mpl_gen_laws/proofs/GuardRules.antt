@@ -27,21 +27,21 @@ use Rattle.mpl_gen_laws.proofs.GuardForms.{Pure}
 
 -- ---- the rule on guards, at each node
 
-empty_left : (xs ys : List Failure) → is_empty (xs ++ ys) ≡ true → is_empty xs ≡ true
+pub empty_left : (xs ys : List Failure) → is_empty (xs ++ ys) ≡ true → is_empty xs ≡ true
 empty_left [] ys e = refl
 empty_left (x ∷ xs) ys e = absurd cc
 
-empty_right : (xs ys : List Failure) → is_empty (xs ++ ys) ≡ true → is_empty ys ≡ true
+pub empty_right : (xs ys : List Failure) → is_empty (xs ++ ys) ≡ true → is_empty ys ≡ true
 empty_right [] ys e = e
 empty_right (x ∷ xs) ys e = absurd cc
 
-abbrev Holds : Located → Rule → Type 0
+abbrev pub Holds : Located → Rule → Type 0
 Holds p r = r.holds p.environment p.node ≡ true
 
 abbrev named : Located → List Rule → List Failure
 named p some = map (λ (r : Rule). record { at = p.at; rule = r.number }) some
 
-hold_all : (p : Located) (some : List Rule) → is_empty (failures_at some p) ≡ true → Every (Holds p) some
+pub hold_all : (p : Located) (some : List Rule) → is_empty (failures_at some p) ≡ true → Every (Holds p) some
 hold_all p [] e = tt
 hold_all p (r ∷ some) e = chosen (r.holds p.environment p.node) refl (hold_all p some) e where
   chosen : (b : Bool) → r.holds p.environment p.node ≡ b → (is_empty (failures_at some p) ≡ true → Every (Holds p) some) → is_empty (named p (if not b then r ∷ failing_at p some else failing_at p some)) ≡ true → Every (Holds p) (r ∷ some)

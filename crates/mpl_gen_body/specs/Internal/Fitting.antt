@@ -9,7 +9,7 @@ use Rattle.mpl_ast.specs.declared.program.Declaration.TheVariants as declaration
 use Rattle.mpl_mean.specs.Laws.Sizes.{Every}
 use Rattle.mpl_mean.specs.Meaning.Layout.{Class, formals_of, member_named}
 use Rattle.mpl_gen_code.specs.ProgramImage.{function_image, member_image, with_entry}
-use Rattle.mpl_gen_body.specs.ImageFits.{EntryFits, FunctionFits, MemberFits}
+use Rattle.mpl_gen_bounds.specs.ImageFits.{EntryFits, FunctionFits, MemberFits}
 
 abbrev pub DeclarationFits : List Declaration → (ℕ → Bool) → Declaration → Type 0
 DeclarationFits ds marks (declaration.Struct at line name fields) = Unit {0}

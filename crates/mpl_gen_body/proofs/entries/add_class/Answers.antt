@@ -2,7 +2,7 @@ use Rattle.std.proofs.Common.{subst, sym}
 use Rattle.mpl_mean.specs.Laws.Sizes.{Every}
 use Rattle.mpl_gen_code.specs.ProgramImage.{entries_of_select}
 use Rattle.mpl_layout.specs.SeenClasses.{class_seen}
-use Rattle.mpl_gen_body.specs.ImageFits.{EntryFits}
+use Rattle.mpl_gen_bounds.specs.ImageFits.{EntryFits}
 use Rattle.mpl_gen_body.proofs.Fitting.{listed_fit}
 use Rattle.mpl_gen_body.proofs.entries.add_class.Goals as goal
 

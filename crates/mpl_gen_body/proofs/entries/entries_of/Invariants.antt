@@ -4,7 +4,7 @@ use Rattle.mpl_gen_code.specs.ProgramImage.{all_entries}
 use Rattle.mpl_layout.specs.Bounds.{StateFits}
 use Rattle.mpl_gen_scope.specs.SeenSelects.{select_seen}
 use Rattle.mpl_layout.specs.SeenClasses.{class_seen}
-use Rattle.mpl_gen_body.specs.ImageFits.{EntryFits}
+use Rattle.mpl_gen_bounds.specs.ImageFits.{EntryFits}
 use Rattle.mpl_gen_body.proofs.entries.entries_of.Given as goal
 
 abbrev pub invariant-loop-class : goal.invariant-loop-class

@@ -9,7 +9,7 @@ use Rattle.mpl_gen_scope.specs.SeenMarks.{marked}
 use Rattle.mpl_layout.specs.SeenParts.{part_seen}
 use Rattle.mpl_gen_scope.specs.SeenScope.{env_seen}
 use Rattle.mpl_gen_expr.specs.Drafts.{InstrFits}
-use Rattle.mpl_gen_body.specs.ImageFits.{GuardFits}
+use Rattle.mpl_gen_bounds.specs.ImageFits.{GuardFits}
 use Rattle.mpl_gen_body.specs.Internal.Accepting.{guard_with}
 use Rattle.mpl_gen_body.specs.Internal.Surroundings.{env_with}
 use Rattle.mpl_gen_body.proofs.Writes.{all_written}

@@ -5,7 +5,7 @@ use Rattle.mpl_mean.specs.Plain.Stmt.{stmts_from}
 use Rattle.mpl_gen_code.specs.ProgramImage.{body_env, code_of_body}
 use Rattle.mpl_gen_code.specs.Scopes.{OfFunction}
 use Rattle.mpl_gen_scope.specs.SeenMarks.{marked}
-use Rattle.mpl_gen_body.specs.ImageFits.{CodeFits}
+use Rattle.mpl_gen_bounds.specs.ImageFits.{CodeFits}
 use Rattle.mpl_gen_body.proofs.functions.function_of.Goals as goal
 
 pub code_of_body-requires : goal.code_of_body-requires

@@ -4,7 +4,7 @@ use Rattle.mpl_gen_code.specs.ProgramImage.{members_image}
 use Rattle.mpl_layout.specs.Bounds.{StateFits}
 use Rattle.mpl_layout.specs.SeenClasses.{class_seen}
 use Rattle.mpl_gen_scope.specs.SeenMarks.{marked}
-use Rattle.mpl_gen_body.specs.ImageFits.{MemberFits}
+use Rattle.mpl_gen_bounds.specs.ImageFits.{MemberFits}
 use Rattle.mpl_gen_body.proofs.members.members_of.Given as goal
 
 abbrev pub invariant-loop-class : goal.invariant-loop-class

@@ -1,0 +1,12 @@
+pub mod FormCounts
+pub mod Readings
+pub mod ExpressionTokens
+pub mod StatementTokens
+pub mod ProgramTokens
+pub mod LaidPieces
+pub mod SmallScopes
+pub mod LaidExpressions
+pub mod LaidStatements
+pub mod SizedTypes
+pub mod Priorities
+pub mod SmallImages

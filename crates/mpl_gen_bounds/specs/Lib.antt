@@ -1,0 +1,2 @@
+-- Images whose numbers have 32 bits.
+pub mod ImageFits
