@@ -2,3 +2,4 @@ mod Entries
 mod Queues
 pub mod Inserted
 mod Opening
+pub mod Opened

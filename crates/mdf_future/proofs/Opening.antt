@@ -36,14 +36,14 @@ without-open t on f here unknown =
 -- ---- one more consumer
 
 -- what one more consumer leaves, by what has become of the result
-record Waits (t : ResultTable) (on : ℕ) (c : Consumer) : Type 0 where
-  future : Future
-  here : get t.results on ≡ Some future
-  fate : Bool
-  is : is_known future.fate ≡ fate
-  leaves : waited t on c ≡ (if fate then table t.results (t.due ++ deliveries on (c ∷ [])) else table (insert t.results on (record future { consumers = future.consumers ++ c ∷ [] })) t.due)
+pub record Waits (t : ResultTable) (on : ℕ) (c : Consumer) : Type 0 where
+  pub future : Future
+  pub here : get t.results on ≡ Some future
+  pub fate : Bool
+  pub is : is_known future.fate ≡ fate
+  pub leaves : waited t on c ≡ (if fate then table t.results (t.due ++ deliveries on (c ∷ [])) else table (insert t.results on (record future { consumers = future.consumers ++ c ∷ [] })) t.due)
 
-waits : (t : ResultTable) (on : ℕ) (c : Consumer) (o : Option Future) → get t.results on ≡ o → IsSome o → Waits t on c
+pub waits : (t : ResultTable) (on : ℕ) (c : Consumer) (o : Option Future) → get t.results on ≡ o → IsSome o → Waits t on c
 waits t on c None here there = absurd (cc)
 waits t on c (Some f) here there = record { future = f; here = here; fate = is_known f.fate; is = refl; leaves = ap (waited_at t on c) here }
 

@@ -1,14 +1,22 @@
-ghost use Rattle.std.specs.Prelude.{◌≡◌, [], ◌∷◌};
+ghost use Rattle.std.specs.Prelude.{◌≡◌, ℕ, [], ◌∷◌};
 ghost use Rattle.mpl_value.specs.declared.known.Known.{Known};
 ghost use Rattle.mdf_match.specs.declared.token.Tag.{Tag};
 ghost use Rattle.mdf_future.specs.declared.consumer.Consumer.TheVariants.{Parked, Port, Result};
 ghost use Rattle.mdf_future.specs.declared.future.Give.TheVariants as gives;
 ghost use Rattle.mdf_future.specs.Calls.{EachIsDueOnce, Opens, Waits, Gives, Takes, queue};
+ghost use Rattle.mdf_future.specs.Openings.{HasOpened, HaveResults, Passed, opened_with};
+ghost use Rattle.mdf_future.specs.Results.{ResultTable};
 
 /// What is due follows from the calls alone: each consumer of a result that is known once, but for parked actors; in
 /// the order in which results became known, and of one result in the order in which its consumers were added.
 pub fn each_consumer_is_due_once()
     ensures { EachIsDueOnce }
+{}
+
+/// A result that is opened with ports that wait is open, and each result that is passed to them and isn't known has these
+/// ports behind its other consumers. Where it is known they are due, behind all others.
+pub fn ports_wait_for_what_is_passed()
+    ensures { (before : ResultTable) (actor : ℕ) (passed : Passed) → HaveResults before passed → HasOpened before actor passed (opened_with before actor passed) }
 {}
 
 /// What is due after a few calls, the newest of which stands first.
