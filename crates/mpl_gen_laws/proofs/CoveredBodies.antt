@@ -26,7 +26,7 @@ pub record ProgramCovers (ds : List Declaration) (marks : ℕ → Bool) : Type 0
   pub function : (name : List ℕ) (f : Function) → FunctionIs ds name f → Covers marks (stmts_ways (plain_env (function_env ds marks f)) (stmts_of f.body)) none_loose
   pub member : (class : Class) (m : Member) → MemberIs ds class m → Covers marks (stmts_ways (plain_env (member_env ds marks class m)) (stmts_of m.body)) none_loose
 
-formals_seen : (number : ℕ) (formals : List Formal) → map plain.formal_shape formals ≡ map shape_in (formals_from number formals)
+pub formals_seen : (number : ℕ) (formals : List Formal) → map plain.formal_shape formals ≡ map shape_in (formals_from number formals)
 formals_seen number [] = refl
 formals_seen number (formal ∷ formals) = ap (λ others. plain.formal_shape formal ∷ others) (formals_seen (number + 1) formals)
 

@@ -30,3 +30,9 @@ pub mod SafeStatements
 pub mod SafeBodies
 pub mod SafeTold
 pub mod SafeStarts
+pub mod CountedNeeds
+pub mod NeededExpressions
+pub mod NeededStatements
+pub mod EachBody
+pub mod NeededBodies
+pub mod NeededGuards

@@ -57,7 +57,7 @@ other_bytes a b e = chosen (bytes_eq b a) refl where
   chosen false i = refl
 
 -- a name that differs from those before and from one more
-fresh_of : (name other : List ℕ) (earlier : List (List ℕ)) → list_any (bytes_eq name) (earlier ++ other ∷ []) ≡ false → (list_any (bytes_eq name) earlier ≡ false) × (bytes_eq other name ≡ false)
+pub fresh_of : (name other : List ℕ) (earlier : List (List ℕ)) → list_any (bytes_eq name) (earlier ++ other ∷ []) ≡ false → (list_any (bytes_eq name) earlier ≡ false) × (bytes_eq other name ≡ false)
 fresh_of name other earlier e =
     let two = both (list_any (bytes_eq name) earlier) (bytes_eq name other || false) (sym (list_any-append (bytes_eq name) earlier (other ∷ [])) ∙ e) in
     (two.0, other_bytes name other (both (bytes_eq name other) false two.1).0) where

@@ -3,3 +3,4 @@ pub mod PrintedLines
 pub mod Marks
 pub mod MarkedSum
 pub mod SafeFrames
+pub mod MarkedUses
