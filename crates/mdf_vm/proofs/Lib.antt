@@ -13,3 +13,4 @@ pub mod Poured
 pub mod Filled
 pub mod GuardReads
 pub mod GuardRuns
+pub mod OnTheWay

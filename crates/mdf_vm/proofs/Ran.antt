@@ -1,5 +1,5 @@
 -- A run behind the answer to a frame's last stop.
-use Rattle.std.proofs.Common.{◌≡◌, ◌≤◌, ◌+◌, ℕ, refl, ap, ◌∙◌, sym, subst}
+use Rattle.std.proofs.Common.{◌≡◌, ◌<◌, ◌≤◌, ◌+◌, ℕ, refl, ap, ◌∙◌, sym, subst}
 use Rattle.std.specs.Prelude.{ℤ}
 use Rattle.mpl_value.specs.declared.body.Arg.{Arg}
 use Rattle.mdf_code.specs.declared.raw.RawImage.{RawImage}
@@ -17,7 +17,7 @@ use Rattle.mdf_vm.specs.declared.last.Last.TheVariants as last
 use Rattle.mdf_vm.specs.declared.stop.Stop as stops
 
 -- an answer adds nothing to what is known
-same_knows : (image : RawImage) (a : Alone) (l : Last) → (goes_on_at image a l).knows ≡ a.knows
+pub same_knows : (image : RawImage) (a : Alone) (l : Last) → (goes_on_at image a l).knows ≡ a.knows
 same_knows image a last.Going = refl
 same_knows image a (last.Called member) = refl
 same_knows image a (last.Needs result) = refl
@@ -51,7 +51,7 @@ ran image quantum before a after stop halt spent few answer runs same tells left
   turns = turns ∙ ap (λ n. n + spent) answer.turns;
 }
 
-pub ran_out : (image : RawImage) (quantum : ℕ) (before a after : frames.Frame) (spent : ℕ) → spent ≤ quantum → IsAnswer image before a →
+pub ran_out : (image : RawImage) (quantum : ℕ) (before a after : frames.Frame) (spent : ℕ) → spent < quantum → IsAnswer image before a →
     Went (knows_of a.setting.results) (around_of image a) quantum 0 (frame_of a.running) spent (frame_of after.running) → after.setting ≡ a.setting →
     after.last ≡ a.last → after.turns ≡ a.turns + spent → RanOut image quantum before after
 ran_out image quantum before a after spent few answer went same left turns =

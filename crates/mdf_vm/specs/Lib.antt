@@ -8,3 +8,4 @@ pub mod Hollow
 pub mod Ends
 pub mod GuardFormals
 pub mod Internal
+pub mod OnTheWay

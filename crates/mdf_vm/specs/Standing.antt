@@ -93,10 +93,10 @@ pub record Ran (image : RawImage) (quantum : ℕ) (before : frames.Frame) (stop 
   pub last_is : after.last ≡ last_at halt
   pub turns : after.turns ≡ before.turns + spent
 
--- A frame ran until no memory was left, and goes on from there.
+-- A frame ran until no memory was left, with turns left, and goes on from there.
 pub record RanOut (image : RawImage) (quantum : ℕ) (before : frames.Frame) (after : frames.Frame) : Type 0 where
   pub spent : ℕ
-  pub few : spent ≤ quantum
+  pub few : spent < quantum
   pub went : Went (knows_of before.setting.results) (around_of image before) quantum 0 (goes_on image before).frame spent (goes_on image after).frame
   pub calls : (goes_on image after).calls ≡ (goes_on image before).calls
   pub knows : (goes_on image after).knows ≡ (goes_on image before).knows

@@ -37,5 +37,5 @@ mod words;
 pub use formals::Formals;
 pub use frame::{Ended, Frame};
 pub use guards::holds;
-pub use laws::frames_await_results_of_their_calls;
+pub use laws::{frames_await_results_of_their_calls, frames_that_ran_out_may_run_again};
 pub use stop::{FlowArg, FlowArgs, Sent, Stop};

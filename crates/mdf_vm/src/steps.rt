@@ -220,6 +220,7 @@ impl Running {
         ensures ok { IfOk result (λ halted. RunsTo (knows_of setting.now.results) (record { image = image.now; object = setting.now.object }) quantum (frame_of self.old) (halt_of halted) spent.new (frame_of self.new)) }
         ensures err { OnErr result (Went (knows_of setting.now.results) (record { image = image.now; object = setting.now.object }) quantum 0 (frame_of self.old) spent.new (frame_of self.new)) }
         ensures few { spent.new ≤ quantum }
+        ensures left { OnErr result (spent.new < quantum) }
     {
         while *spent < quantum {
             match self.until_turn(image, setting)? {

@@ -15,7 +15,7 @@ returns-in_err-halted-clause-err c =
     let a = c.answer.new.self in
     let spent = c.run-ran.new.spent in
     on_err c.from_residual-in_err-halted.result
-    (ran_out c.args.image.now c.args.quantum c.args.self.now a (record { running = c.run-ran.new.self; setting = a.setting; turns = a.turns + spent; last = a.last }) spent c.run-ran.ensures.few
+    (ran_out c.args.image.now c.args.quantum c.args.self.now a (record { running = c.run-ran.new.self; setting = a.setting; turns = a.turns + spent; last = a.last }) spent c.in_err-halted.ensures.left
     (subst (λ image. IsAnswer image c.args.self.now a) c.raw.ensures.parts c.in_ok-answer.ensures.ok) c.in_err-halted.ensures.err refl refl refl)
 
 pub returns-clause-ok : goal.returns-clause-ok
