@@ -87,6 +87,13 @@ impl Serials {
         self.marks[serial as usize]
     }
 
+    /// How many serials there are, whether they are in or not.
+    pub fn total(&self) -> u32
+        ensures { result ≡ length self.now }
+    {
+        self.marks.len() as u32
+    }
+
     /// How many are in.
     pub fn len(&self) -> u32
         ensures { result ≡ length (serials_in self.now) }
