@@ -107,7 +107,6 @@ other_is t actor port q [] have other =
 other_is t actor port q (None ∷ others) have other = other_is t actor (port + 1) q others have other
 other_is t actor port q (Some on ∷ others) have other =
     other_is (waited t on (port_of actor port)) actor (port + 1) q others (all_there t on (port_of actor port) others have.0 have.1) other ∙ ⊎_elim same differs (cases_eq q on) where
-
       same : q ≡ on → option_map (joined (ports_for q actor (port + 1) others)) (get (waited t on (port_of actor port)).results q)
           ≡ option_map (joined (cond (on == q) (port_of actor port ∷ ports_for q actor (port + 1) others) (ports_for q actor (port + 1) others))) (get t.results q)
       same e =

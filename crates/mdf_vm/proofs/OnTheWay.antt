@@ -118,8 +118,8 @@ goes_further image start told spent quantum before after w is out = record {
 pub comes_to_halt : ComesToHalt
 comes_to_halt image start told spent quantum before after stop w is ran =
     let runs = runs_further w.from.knows (around_start image start) most_turns quantum spent w.from.frame (goes_on image before).frame w.went is ran.halt ran.spent (alone_of after).frame
-        (subst (λ x. RunsTo w.from.knows x quantum (goes_on image before).frame ran.halt ran.spent (alone_of after).frame) (around_is image start before w.object)
-        (subst (λ k. RunsTo k (around_of image before) quantum (goes_on image before).frame ran.halt ran.spent (alone_of after).frame) (known_there image start told spent before w) ran.runs)) in
+    (subst (λ x. RunsTo w.from.knows x quantum (goes_on image before).frame ran.halt ran.spent (alone_of after).frame) (around_is image start before w.object)
+    (subst (λ k. RunsTo k (around_of image before) quantum (goes_on image before).frame ran.halt ran.spent (alone_of after).frame) (known_there image start told spent before w) ran.runs)) in
     record {
       steps = w.steps + runs.steps;
       from = w.from;

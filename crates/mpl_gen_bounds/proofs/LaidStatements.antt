@@ -121,9 +121,10 @@ module _ (ds : List Declaration) (sized : Sized ds) (limit : ℕ) (is : IsLimit 
       more limit is (omega arith)
       (both_laid limit is (tests_laid line hidden found.words room k)
       (both_laid limit is (marked_laid limit is b (need_slot_laid ds sized limit is wide (Some slot) number))
-      (fixed_laid 2 (instr.Load hidden 0 1 ∷ instr.StoreIndexed slot.number found.offset found.words line ∷ []) (omega arith)
-      ((fits_below hidden is (omega (arith, room)), fits_below 0 is (omega arith), fits_below 1 is (omega (arith, wide))),
-      ((fits_below slot.number is number, fits_below found.offset is (omega (arith, h, wide)), fits_below found.words is (omega (arith, k, wide))), tt)))))
+      (fixed_laid 2 (instr.Load hidden 0 1 ∷ instr.StoreIndexed slot.number found.offset found.words line ∷ []) (omega arith) (
+        (fits_below hidden is (omega (arith, room)), fits_below 0 is (omega arith), fits_below 1 is (omega (arith, wide))),
+        ((fits_below slot.number is number, fits_below found.offset is (omega (arith, h, wide)), fits_below found.words is (omega (arith, k, wide))), tt),
+      ))))
 
   element_laid : {m n : ℕ} {value index : Piece} (b : Bool) (line hidden : ℕ) (o : Option Found) → hidden + 1 ≤ limit → IfAny FoundFits o → LaidIn m value → LaidIn n index
       → LaidIn (m + n + 9) (element_code b line hidden value index o)
