@@ -4,6 +4,7 @@ pub mod Walks
 pub mod Loops
 pub mod LoopEnds
 pub mod FlagSets
+pub mod WordSets
 pub mod HeadSets
 pub mod Rows
 pub mod BodyMarks

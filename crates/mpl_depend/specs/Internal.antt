@@ -3,6 +3,7 @@ pub mod Carried
 pub mod Flags
 pub mod Heads
 pub mod Sets
+pub mod Words
 pub mod Settled
 pub mod SeenWays
 pub mod Regular

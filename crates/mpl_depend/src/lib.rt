@@ -9,12 +9,13 @@ mod making;
 mod nesting;
 mod pend_map;
 mod scope;
-mod sets;
 mod statements;
 mod uses;
+mod variable_set;
 mod walking;
 mod ways;
 mod wholes;
 mod width;
+mod words;
 
 pub use pend_map::{PendMap, pending};

@@ -1,8 +1,10 @@
 ghost use Rattle.std.specs.Prelude.{[], map, IfOk, OnOk};
 ghost use Rattle.mpl_mean.specs.Pending.Paths.{Then, Loop};
-ghost use Rattle.mpl_depend.specs.Internal.Heads.{AddsEnds, NoHeads, heads_in};
+ghost use Rattle.mpl_depend.specs.Internal.Heads.{AddsEnds, NoHeads};
 ghost use Rattle.mpl_depend.specs.Internal.SeenWays.{all_seen, ways_seen};
+ghost use Rattle.mpl_depend.specs.Internal.Words.{places_for};
 
+use crate::variable_set::VariableSet;
 use crate::ways::Ways;
 use mpl_value::NoMemory;
 use std::alloc::Global;
@@ -64,13 +66,13 @@ fn add_all(list: &[Ways], ends: &mut Vec<usize>) -> Result<(), NoMemory>
     Ok(())
 }
 
-/// Heads of so many loops, to which nothing has come, with so many places each.
-pub fn no_heads(alloc: Global, loops: usize, places: usize) -> Result<Vec<Vec<bool>>, NoMemory>
-    ensures { IfOk result (λ heads. NoHeads loops places (heads_in heads.items)) }
+/// Heads of so many loops, to which nothing has come, with places for the variables below a number.
+pub fn no_heads(alloc: Global, loops: usize, variables: usize) -> Result<Vec<VariableSet>, NoMemory>
+    ensures { IfOk result (λ heads. NoHeads loops (places_for variables) heads.items) }
 {
     let mut heads = Vec::new(alloc);
     for _ in 0..loops {
-        heads.push(vec![in alloc; false; places]?)?;
+        heads.push(VariableSet::of(alloc, variables)?)?;
     }
     Ok(heads)
 }

@@ -2,12 +2,12 @@ ghost use Rattle.std.specs.Prelude.{◌≡◌, ◌+◌, ◌<◌, ℕ, length, ma
 ghost use Rattle.mpl_mean.specs.Pending.Paths.{Then, Either, Loop};
 ghost use Rattle.mpl_depend.specs.Internal.Carried.{event_on};
 ghost use Rattle.mpl_depend.specs.Internal.Flags.{set_of};
-ghost use Rattle.mpl_depend.specs.Internal.Heads.{head, heads_in};
+ghost use Rattle.mpl_depend.specs.Internal.Heads.{head};
 ghost use Rattle.mpl_depend.specs.Internal.SeenWays.{all_seen, event_seen, ways_seen};
 ghost use Rattle.mpl_depend.specs.Internal.Sets.{TakenAt};
 ghost use Rattle.mpl_depend.specs.Internal.Walking.{EventWithin, Ready, Rounded, Walked, marks_behind};
 
-use crate::sets::{clear, copied, join, take_new};
+use crate::variable_set::VariableSet;
 use crate::ways::{Event, Ways};
 use mpl_value::NoMemory;
 use std::alloc::Global;
@@ -20,12 +20,12 @@ pub fn walk(
     ways: &Ways,
     ends: &[usize],
     next: usize,
-    heads: &mut [Vec<bool>],
-    flags: &mut [bool],
+    heads: &mut [VariableSet],
+    flags: &mut VariableSet,
     marks: &mut Vec<u32>,
 ) -> Result<usize, NoMemory>
-    requires { Ready (ways_seen ways.now) ends.now next (heads_in heads.old) flags.old }
-    ensures { IfOk result (λ behind. Walked (ways_seen ways.now) next behind flags.old flags.new (heads_in heads.old) (heads_in heads.new) marks.old.items marks.new.items) }
+    requires { Ready (ways_seen ways.now) ends.now next heads.old flags.old }
+    ensures { IfOk result (λ behind. Walked (ways_seen ways.now) next behind flags.old flags.new heads.old heads.new marks.old.items marks.new.items) }
 {
     match ways {
         Ways::Nothing => Ok(next),
@@ -72,20 +72,20 @@ pub fn walk(
             )
         }
         Ways::Stop => {
-            clear(flags);
+            flags.clear();
             Ok(next)
         }
     }
 }
 
 /// A use is marked where its variable is loose.
-fn mark(event: Event, flags: &[bool], marks: &mut Vec<u32>) -> Result<(), NoMemory>
+fn mark(event: Event, flags: &VariableSet, marks: &mut Vec<u32>) -> Result<(), NoMemory>
     requires { EventWithin (length flags.now) (event_seen event) }
     ensures { OnOk result (marks.new.items ≡ marks_behind (event_seen event) (set_of flags.now) marks.old.items) }
 {
     match event {
         Event::Forces(node, variable) => {
-            if flags[variable + 1] {
+            if flags.is_loose(variable) {
                 marks.push(node)?;
             }
             Ok(())
@@ -97,16 +97,16 @@ fn mark(event: Event, flags: &[bool], marks: &mut Vec<u32>) -> Result<(), NoMemo
 }
 
 /// What an event does to the variables that are loose.
-fn follow(event: Event, flags: &mut [bool])
+fn follow(event: Event, flags: &mut VariableSet)
     requires { EventWithin (length flags.old) (event_seen event) }
     ensures sized { length flags.new ≡ length flags.old }
     ensures set { (n : ℕ) → set_of flags.new n ≡ event_on (event_seen event) (set_of flags.old) n }
 {
     match event {
-        Event::Loosens(variable) => flags[variable + 1] = flags[0],
-        Event::Settles(variable) => flags[variable + 1] = false,
-        Event::Copies(into, from) => flags[into + 1] = flags[from + 1],
-        Event::Forces(_, variable) => flags[variable + 1] = false,
+        Event::Loosens(variable) => flags.loosen(variable),
+        Event::Settles(variable) => flags.settle(variable),
+        Event::Copies(into, from) => flags.carry(into, from),
+        Event::Forces(_, variable) => flags.settle(variable),
     }
 }
 
@@ -117,12 +117,12 @@ fn walk_then(
     second: &Ways,
     ends: &[usize],
     next: usize,
-    heads: &mut [Vec<bool>],
-    flags: &mut [bool],
+    heads: &mut [VariableSet],
+    flags: &mut VariableSet,
     marks: &mut Vec<u32>,
 ) -> Result<usize, NoMemory>
-    requires { Ready (Then (ways_seen first.now) (ways_seen second.now)) ends.now next (heads_in heads.old) flags.old }
-    ensures { IfOk result (λ behind. Walked (Then (ways_seen first.now) (ways_seen second.now)) next behind flags.old flags.new (heads_in heads.old) (heads_in heads.new) marks.old.items marks.new.items) }
+    requires { Ready (Then (ways_seen first.now) (ways_seen second.now)) ends.now next heads.old flags.old }
+    ensures { IfOk result (λ behind. Walked (Then (ways_seen first.now) (ways_seen second.now)) next behind flags.old flags.new heads.old heads.new marks.old.items marks.new.items) }
 {
     let middle = walk(alloc, first, ends, next, heads, flags, marks)?;
     let behind = walk(alloc, second, ends, middle, heads, flags, marks)?;
@@ -135,12 +135,12 @@ fn walk_all(
     list: &[Ways],
     ends: &[usize],
     next: usize,
-    heads: &mut [Vec<bool>],
-    flags: &mut [bool],
+    heads: &mut [VariableSet],
+    flags: &mut VariableSet,
     marks: &mut Vec<u32>,
 ) -> Result<usize, NoMemory>
-    requires { Ready (all_seen (map ways_seen list.now)) ends.now next (heads_in heads.old) flags.old }
-    ensures { IfOk result (λ behind. Walked (all_seen (map ways_seen list.now)) next behind flags.old flags.new (heads_in heads.old) (heads_in heads.new) marks.old.items marks.new.items) }
+    requires { Ready (all_seen (map ways_seen list.now)) ends.now next heads.old flags.old }
+    ensures { IfOk result (λ behind. Walked (all_seen (map ways_seen list.now)) next behind flags.old flags.new heads.old heads.new marks.old.items marks.new.items) }
 {
     let mut behind = next;
     for ways in list {
@@ -156,14 +156,14 @@ fn walk_either(
     other: &Ways,
     ends: &[usize],
     next: usize,
-    heads: &mut [Vec<bool>],
-    flags: &mut [bool],
+    heads: &mut [VariableSet],
+    flags: &mut VariableSet,
     marks: &mut Vec<u32>,
 ) -> Result<usize, NoMemory>
-    requires { Ready (Either (ways_seen one.now) (ways_seen other.now)) ends.now next (heads_in heads.old) flags.old }
-    ensures { IfOk result (λ behind. Walked (Either (ways_seen one.now) (ways_seen other.now)) next behind flags.old flags.new (heads_in heads.old) (heads_in heads.new) marks.old.items marks.new.items) }
+    requires { Ready (Either (ways_seen one.now) (ways_seen other.now)) ends.now next heads.old flags.old }
+    ensures { IfOk result (λ behind. Walked (Either (ways_seen one.now) (ways_seen other.now)) next behind flags.old flags.new heads.old heads.new marks.old.items marks.new.items) }
 {
-    let mut copy = copied(alloc, &*flags)?;
+    let mut copy = flags.copy(alloc)?;
     walk_both(
         alloc,
         one,
@@ -172,7 +172,7 @@ fn walk_either(
         next,
         heads,
         flags,
-        copy.as_mut_slice(),
+        &mut copy,
         marks,
     )
 }
@@ -185,18 +185,18 @@ fn walk_both(
     other: &Ways,
     ends: &[usize],
     next: usize,
-    heads: &mut [Vec<bool>],
-    flags: &mut [bool],
-    copy: &mut [bool],
+    heads: &mut [VariableSet],
+    flags: &mut VariableSet,
+    copy: &mut VariableSet,
     marks: &mut Vec<u32>,
 ) -> Result<usize, NoMemory>
     requires copy { copy.old ≡ flags.old }
-    requires ready { Ready (Either (ways_seen one.now) (ways_seen other.now)) ends.now next (heads_in heads.old) flags.old }
-    ensures { IfOk result (λ behind. Walked (Either (ways_seen one.now) (ways_seen other.now)) next behind flags.old flags.new (heads_in heads.old) (heads_in heads.new) marks.old.items marks.new.items) }
+    requires ready { Ready (Either (ways_seen one.now) (ways_seen other.now)) ends.now next heads.old flags.old }
+    ensures { IfOk result (λ behind. Walked (Either (ways_seen one.now) (ways_seen other.now)) next behind flags.old flags.new heads.old heads.new marks.old.items marks.new.items) }
 {
     let middle = walk(alloc, one, ends, next, heads, flags, marks)?;
     let behind = walk(alloc, other, ends, middle, heads, copy, marks)?;
-    join(flags, &*copy);
+    flags.join(&*copy);
     Ok(behind)
 }
 
@@ -207,14 +207,14 @@ fn walk_loop(
     body: &Ways,
     ends: &[usize],
     next: usize,
-    heads: &mut [Vec<bool>],
-    flags: &mut [bool],
+    heads: &mut [VariableSet],
+    flags: &mut VariableSet,
     marks: &mut Vec<u32>,
 ) -> Result<usize, NoMemory>
-    requires { Ready (Loop (ways_seen test.now) (ways_seen body.now)) ends.now next (heads_in heads.old) flags.old }
-    ensures { IfOk result (λ behind. Walked (Loop (ways_seen test.now) (ways_seen body.now)) next behind flags.old flags.new (heads_in heads.old) (heads_in heads.new) marks.old.items marks.new.items) }
+    requires { Ready (Loop (ways_seen test.now) (ways_seen body.now)) ends.now next heads.old flags.old }
+    ensures { IfOk result (λ behind. Walked (Loop (ways_seen test.now) (ways_seen body.now)) next behind flags.old flags.new heads.old heads.new marks.old.items marks.new.items) }
 {
-    let mut fresh = copied(alloc, &*flags)?;
+    let mut fresh = flags.copy(alloc)?;
     rounds(
         alloc,
         test,
@@ -222,7 +222,7 @@ fn walk_loop(
         ends,
         next,
         heads,
-        fresh.as_mut_slice(),
+        &mut fresh,
         flags,
         marks,
     )
@@ -236,16 +236,16 @@ fn rounds(
     body: &Ways,
     ends: &[usize],
     number: usize,
-    heads: &mut [Vec<bool>],
-    fresh: &mut [bool],
-    flags: &mut [bool],
+    heads: &mut [VariableSet],
+    fresh: &mut VariableSet,
+    flags: &mut VariableSet,
     marks: &mut Vec<u32>,
 ) -> Result<usize, NoMemory>
     requires fresh { fresh.old ≡ flags.old }
-    requires ready { Ready (Loop (ways_seen test.now) (ways_seen body.now)) ends.now number (heads_in heads.old) flags.old }
-    ensures { IfOk result (λ behind. Walked (Loop (ways_seen test.now) (ways_seen body.now)) number behind flags.old flags.new (heads_in heads.old) (heads_in heads.new) marks.old.items marks.new.items) }
+    requires ready { Ready (Loop (ways_seen test.now) (ways_seen body.now)) ends.now number heads.old flags.old }
+    ensures { IfOk result (λ behind. Walked (Loop (ways_seen test.now) (ways_seen body.now)) number behind flags.old flags.new heads.old heads.new marks.old.items marks.new.items) }
 {
-    clear(flags);
+    flags.clear();
     while take_new_at(heads, number, fresh) {
         round(alloc, test, body, ends, number, heads, fresh, flags, marks)?;
     }
@@ -253,12 +253,13 @@ fn rounds(
 }
 
 /// What is fresh goes to the head of a loop of this number.
-fn take_new_at(heads: &mut [Vec<bool>], number: usize, fresh: &mut [bool]) -> bool
+#[tactic(auto, using(crate::proofs::HeadSets::taken_at))]
+fn take_new_at(heads: &mut [VariableSet], number: usize, fresh: &mut VariableSet) -> bool
     requires within { number < length heads.old }
-    requires sized { length (head (heads_in heads.old) number) ≡ length fresh.old }
-    ensures { TakenAt number (heads_in heads.old) fresh.old (heads_in heads.new) fresh.new result }
+    requires sized { length (head heads.old number) ≡ length fresh.old }
+    ensures { TakenAt number heads.old fresh.old heads.new fresh.new result }
 {
-    take_new(heads[number].as_mut_slice(), fresh)
+    heads[number].take_new(fresh)
 }
 
 /// One round of a loop with what is fresh at its head: what comes behind the test leaves it, and what comes behind the body is
@@ -270,17 +271,17 @@ fn round(
     body: &Ways,
     ends: &[usize],
     number: usize,
-    heads: &mut [Vec<bool>],
-    fresh: &mut [bool],
-    leaves: &mut [bool],
+    heads: &mut [VariableSet],
+    fresh: &mut VariableSet,
+    leaves: &mut VariableSet,
     marks: &mut Vec<u32>,
 ) -> Result<(), NoMemory>
     requires sized { length leaves.old ≡ length fresh.old }
-    requires ready { Ready (Loop (ways_seen test.now) (ways_seen body.now)) ends.now number (heads_in heads.old) fresh.old }
-    ensures { OnOk result (Rounded (ways_seen test.now) (ways_seen body.now) number fresh.old fresh.new leaves.old leaves.new (heads_in heads.old) (heads_in heads.new) marks.old.items marks.new.items) }
+    requires ready { Ready (Loop (ways_seen test.now) (ways_seen body.now)) ends.now number heads.old fresh.old }
+    ensures { OnOk result (Rounded (ways_seen test.now) (ways_seen body.now) number fresh.old fresh.new leaves.old leaves.new heads.old heads.new marks.old.items marks.new.items) }
 {
     let behind = walk(alloc, test, ends, number + 1, heads, fresh, marks)?;
-    join(leaves, &*fresh);
+    leaves.join(&*fresh);
     walk(alloc, body, ends, behind, heads, fresh, marks)?;
     Ok(())
 }

@@ -2,18 +2,17 @@ ghost use Rattle.std.specs.Prelude.{◌≤◌, ◌<◌, map, IfOk};
 ghost use Rattle.mpl_mean.specs.Pending.Paths.{Only};
 ghost use Rattle.mpl_depend.specs.Internal.SeenWays.{all_seen, event_seen, ways_seen};
 ghost use Rattle.mpl_depend.specs.Internal.Walking.{Spans, Within};
+ghost use Rattle.mpl_depend.specs.Internal.Words.{places_for};
 
 use crate::ways::{Event, Ways};
 use mpl_value::NoMemory;
 
-/// How many places the flags of a walk have. More than there are addresses have no memory.
-pub fn places(ways: &Ways) -> Result<usize, NoMemory>
-    ensures within { IfOk result (λ count. Within count (ways_seen ways.now)) }
-    ensures some { IfOk result (λ count. 0 < count) }
+/// A number such that the variables below it are all that the ways speak of.
+pub fn variables_of(ways: &Ways) -> Result<usize, NoMemory>
+    ensures { IfOk result (λ variables. Within (places_for variables) (ways_seen ways.now)) }
 {
     let variables = width(ways)?;
-    let count = above(variables)?;
-    Ok(count)
+    Ok(variables)
 }
 
 /// A number above those of all variables.

@@ -1,6 +1,5 @@
 -- The loops of a body, by numbers in the order in which they begin: where each ends, and what has come to its head.
-use Rattle.std.specs.Prelude.{ℕ, suc, ◌≡◌, ◌+◌, ◌<◌, Bool, List, [], Vec, get_or, length, map}
-use Rattle.std.specs.Global.{Global}
+use Rattle.std.specs.Prelude.{ℕ, suc, ◌≡◌, ◌+◌, ◌<◌, Bool, List, [], get_or, length}
 use Rattle.mpl_mean.specs.Pending.Paths.{Ways, NoEvent, Only, Then, Either, Loop, Stop}
 use Rattle.mpl_depend.specs.Internal.Flags.{Has}
 
@@ -25,9 +24,6 @@ Ends ends number Stop = Unit {0}
 -- the places that have come to the head of each loop
 abbrev pub Heads : Type 0
 Heads = List (List Bool)
-
-abbrev pub heads_in : List (Vec Bool Global) → Heads
-heads_in = map (λ (head : Vec Bool Global). head.items)
 
 abbrev pub head : Heads → ℕ → List Bool
 head heads number = get_or heads number []

@@ -1,6 +1,6 @@
 use Rattle.std.proofs.Common.{true, length, subst, sym, ◌∙◌, ◌<◌}
 use Rattle.std.proofs.Math.ListN.{set, length-set}
-use Rattle.mpl_depend.specs.Internal.Heads.{NoHeads, heads_in}
+use Rattle.mpl_depend.specs.Internal.Heads.{NoHeads}
 use Rattle.mpl_depend.specs.Internal.SeenWays.{ways_seen}
 use Rattle.mpl_depend.specs.Internal.Walking.{Within}
 use Rattle.mpl_depend.proofs.BodyMarks.{start_is}
@@ -10,11 +10,11 @@ use Rattle.mpl_depend.proofs.bodies.mark_with.Goals as goal
 pub walk-requires : goal.walk-requires
 walk-requires c =
     let sized = length-set c.clear.new.flags 0 true ∙ c.clear.ensures.sized in
-    ready_begins (ways_seen c.args.ways.now) c.args.ends.now (heads_in c.args.heads.now) (set c.clear.new.flags 0 true)
+    ready_begins (ways_seen c.args.ways.now) c.args.ends.now c.args.heads.now (set c.clear.new.flags 0 true)
     (subst (λ count. Within count (ways_seen c.args.ways.now)) (sym sized) c.requires.within) c.requires.ends
-    (subst (λ count. NoHeads (length c.args.ends.now) count (heads_in c.args.heads.now)) (sym sized) c.requires.heads)
+    (subst (λ count. NoHeads (length c.args.ends.now) count c.args.heads.now) (sym sized) c.requires.heads)
 
 pub returns : goal.returns
 returns c =
-    walked_adds (ways_seen c.args.ways.now) c.in_ok-walk.field-0 (set c.clear.new.flags 0 true) c.walk.new.flags (heads_in c.args.heads.now) (heads_in c.walk.new.heads) (length c.args.ends.now) (length c.args.flags.now)
+    walked_adds (ways_seen c.args.ways.now) c.in_ok-walk.field-0 (set c.clear.new.flags 0 true) c.walk.new.flags c.args.heads.now c.walk.new.heads (length c.args.ends.now) (length c.args.flags.now)
     c.args.marks.now.items c.walk.new.marks.items (start_is c.clear.new.flags c.clear.ensures.none (subst (λ count. 0 < count) (sym c.clear.ensures.sized) c.requires.some)) c.requires.heads c.in_ok-walk.ensures

@@ -1,6 +1,6 @@
 use Rattle.std.proofs.Common.{◌-◌, ◌+◌, ◌*◌, length, map, drop}
 use Rattle.mpl_depend.specs.Internal.Flags.{count}
-use Rattle.mpl_depend.specs.Internal.Heads.{head, heads_in}
+use Rattle.mpl_depend.specs.Internal.Heads.{head}
 use Rattle.mpl_depend.specs.Internal.SeenWays.{all_seen, ways_seen}
 use Rattle.mpl_depend.specs.Internal.Walking.{Going, Ready, size}
 use Rattle.mpl_depend.proofs.Walks.{Behind}
@@ -8,18 +8,18 @@ use Rattle.mpl_depend.proofs.walking.+walk.Given as goal
 
 abbrev pub invariant-walk_all-loop-ways : goal.invariant-walk_all-loop-ways
 invariant-walk_all-loop-ways l = record {
-  ready : Ready (all_seen (map ways_seen (drop l.ways-index l.list))) l.ends l.behind (heads_in l.heads) l.flags;
-  before : Behind l.list l.ways-index l.next l.behind l.fn.flags l.flags (heads_in l.fn.heads) (heads_in l.heads) l.fn.marks.items l.marks.items;
+  ready : Ready (all_seen (map ways_seen (drop l.ways-index l.list))) l.ends l.behind l.heads l.flags;
+  before : Behind l.list l.ways-index l.next l.behind l.fn.flags l.flags l.fn.heads l.heads l.fn.marks.items l.marks.items;
 }
 
 abbrev pub invariant-rounds-loop-alloc : goal.invariant-rounds-loop-alloc
 invariant-rounds-loop-alloc l = record {
-  going : Going (ways_seen l.test) (ways_seen l.body) l.number l.fn.flags l.fresh l.flags (heads_in l.fn.heads) (heads_in l.heads) l.fn.marks.items l.marks.items;
+  going : Going (ways_seen l.test) (ways_seen l.body) l.number l.fn.flags l.fresh l.flags l.fn.heads l.heads l.fn.marks.items l.marks.items;
 }
 
 -- the places that may still come new to the head
 abbrev pub decreases-rounds-loop-alloc : goal.decreases-rounds-loop-alloc
-decreases-rounds-loop-alloc l = length (head (heads_in l.heads) l.number) - count (head (heads_in l.heads) l.number)
+decreases-rounds-loop-alloc l = length (head l.heads l.number) - count (head l.heads l.number)
 
 abbrev pub decreases-walk : goal.decreases-walk
 decreases-walk l = 4 * size (ways_seen l.ways.now) + 3

@@ -1,0 +1,9 @@
+use Rattle.std.proofs.Common.{arith}
+use Rattle.mpl_depend.proofs.WordSets.{all_joined, sized_as}
+use Rattle.mpl_depend.proofs.words.join.Goals as goal
+
+pub returns : goal.returns
+returns c = record {
+  sized = sized_as c.loop-number.words c.args.words.now c.loop-number.invariant.sized;
+  joined = all_joined c.args.words.now c.args.more.now c.loop-number.words c.loop-number.number (omega arith) c.loop-number.invariant;
+}
