@@ -6,6 +6,7 @@ use Rattle.std.specs.Int.Bits.{or_zero_r}
 use Rattle.std.proofs.Math.Nat.{eq-zero-or-pos}
 use Rattle.std.proofs.Math.ListN.{set, length-set}
 use Rattle.std.proofs.lemmas.Bool.{cases_Bool, cases_eq, cases_lt}
+use Rattle.std.proofs.lemmas.Nat.{or_lt, xor_lt}
 use Rattle.std.proofs.lemmas.Nat.Bits.{bit_at-lt, bit_at-trailing_zeros, bit_at-zero, bit_at_clear_other, bit_at_clear_same, bit_at_or, bit_at_set_other, bit_at_set_same, bit_at_xor, shr_and_one}
 use Rattle.std.proofs.lemmas.List.{ext_get_or, get_or-replicate, get_or-set_same, get_or_past, length-replicate}
 use Rattle.std.proofs.lemmas.List.FromFn.{get_or-map-range_with_len, length-map-range_with_len}
@@ -212,6 +213,8 @@ pub record Taking (head0 fresh0 head fresh : List ℕ) (any : Bool) (number : �
   pub sized : length head ≡ length head0
   pub fresh_sized : length fresh ≡ length head0
   pub as_many : length fresh0 ≡ length head0
+  pub fits : (n : ℕ) → word head0 n < 2 ^ 64
+  pub fresh_fits : (n : ℕ) → word fresh0 n < 2 ^ 64
   pub done : (n : ℕ) → n < number → word head n ≡ bit_or (word head0 n) (word fresh0 n)
   pub done_fresh : (n : ℕ) → n < number → word fresh n ≡ bit_xor (word head n) (word head0 n)
   pub left : (n : ℕ) → number ≤ n → word head n ≡ word head0 n
@@ -219,11 +222,13 @@ pub record Taking (head0 fresh0 head fresh : List ℕ) (any : Bool) (number : �
   pub some : any ≡ true → (n : ℕ) × (n < number) × (0 < word fresh n) × (word fresh n < 2 ^ 64)
   pub none : any ≡ false → (n : ℕ) → n < number → word fresh n ≡ 0
 
-pub taking_begins : (head fresh : List ℕ) → length (flags_of fresh) ≡ length (flags_of head) → Taking head fresh head fresh false 0
-taking_begins head fresh e = record {
+pub taking_begins : (head fresh : List ℕ) → length (flags_of fresh) ≡ length (flags_of head) → ((n : ℕ) → word head n < 2 ^ 64) → ((n : ℕ) → word fresh n < 2 ^ 64) → Taking head fresh head fresh false 0
+taking_begins head fresh e fits fresh_fits = record {
   sized = refl;
   fresh_sized = same_size fresh head e;
   as_many = same_size fresh head e;
+  fits = fits;
+  fresh_fits = fresh_fits;
   done = λ n less. absurd (let l : n < 0 = less in omega arith);
   done_fresh = λ n less. absurd (let l : n < 0 = less in omega arith);
   left = λ n _. refl;
@@ -234,7 +239,7 @@ taking_begins head fresh e = record {
 
 -- whether there is anything new, with one word more
 abbrev pub AnyWith : Bool → ℕ → Bool → Type 0
-AnyWith any new after = (new ≡ 0 → after ≡ any) × (0 < new → (after ≡ true) × (new < 2 ^ 64))
+AnyWith any new after = (new ≡ 0 → after ≡ any) × (0 < new → after ≡ true)
 
 pub taking_goes_on : (head0 fresh0 head fresh : List ℕ) (any after : Bool) (number wide new : ℕ) → number < length head → wide ≡ bit_or (word head number) (word fresh number) → new ≡ bit_xor wide (word head number) → AnyWith any new after
     → Taking head0 fresh0 head fresh any number → Taking head0 fresh0 (set head number wide) (set fresh number new) after (number + 1)
@@ -242,6 +247,8 @@ taking_goes_on head0 fresh0 head fresh any after number wide new within wide_is 
   sized = length-set head number wide ∙ t.sized;
   fresh_sized = length-set fresh number new ∙ t.fresh_sized;
   as_many = t.as_many;
+  fits = t.fits;
+  fresh_fits = t.fresh_fits;
   done = with_this (λ n. word (set head number wide) n ≡ bit_or (word head0 n) (word fresh0 n)) number
       (λ n less. there n (λ e. absurd (let e' : n ≡ number = e in omega arith)) ∙ t.done n less)
       (here ∙ wide_is ∙ ap (λ w. bit_or w (word fresh number)) (t.left number (omega arith)) ∙ ap (bit_or (word head0 number)) (t.left_fresh number (omega arith)));
@@ -252,13 +259,13 @@ taking_goes_on head0 fresh0 head fresh any after number wide new within wide_is 
   left_fresh = λ n above. fresh_there n (λ e. absurd (let e' : n ≡ number = e in omega arith)) ∙ t.left_fresh n (omega arith);
   some = λ on. elim (eq-zero-or-pos new) [
     | inl nothing ↦ earlier (t.some (sym (with_new.0 nothing) ∙ on))
-    | inr something ↦ (number, omega arith, subst (λ w. 0 < w) (sym fresh_here) something, subst (λ w. w < 2 ^ 64) (sym fresh_here) (with_new.1 something).1)
+    | inr something ↦ (number, omega arith, subst (λ w. 0 < w) (sym fresh_here) something, subst (λ w. w < 2 ^ 64) (sym fresh_here) new_fits)
   ];
   none = λ off. elim (eq-zero-or-pos new) [
     | inl nothing ↦ with_this (λ n. word (set fresh number new) n ≡ 0) number
       (λ n less. fresh_there n (λ e. absurd (let e' : n ≡ number = e in omega arith)) ∙ t.none (sym (with_new.0 nothing) ∙ off) n less)
       (fresh_here ∙ nothing)
-    | inr something ↦ absurd (true≢false (sym (with_new.1 something).0 ∙ off))
+    | inr something ↦ absurd (true≢false (sym (with_new.1 something) ∙ off))
   ];
 } where
   here : word (set head number wide) number ≡ wide
@@ -266,6 +273,13 @@ taking_goes_on head0 fresh0 head fresh any after number wide new within wide_is 
 
   fresh_here : word (set fresh number new) number ≡ new
   fresh_here = get_or-set_same fresh number new 0 (let e = t.sized in let f = t.fresh_sized in omega arith)
+
+  new_fits : new < 2 ^ 64
+  new_fits =
+      let head_fits : word head number < 2 ^ 64 = omega (arith, t.fits number, t.left number (omega arith)) in
+      let at : word fresh number < 2 ^ 64 = omega (arith, t.fresh_fits number, t.left_fresh number (omega arith)) in
+      let wide_fits : wide < 2 ^ 64 = subst (λ w. w < 2 ^ 64) (sym wide_is) (or_lt 64 (word head number) (word fresh number) head_fits at) in
+      subst (λ w. w < 2 ^ 64) (sym new_is) (xor_lt 64 wide (word head number) wide_fits head_fits)
 
   there : (n : ℕ) → n ≢ number → word (set head number wide) n ≡ word head n
   there n differ = get_or-set_other head number n wide 0 differ

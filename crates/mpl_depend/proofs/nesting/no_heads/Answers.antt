@@ -1,4 +1,4 @@
-use Rattle.std.proofs.Common.{◌+◌, subst, sym, rules, arith}
+use Rattle.std.proofs.Common.{◌+◌, subst, sym, arith}
 use Rattle.mpl_depend.specs.Internal.Heads.{Heads, NoHeads}
 use Rattle.mpl_depend.specs.Internal.Words.{places_for}
 use Rattle.mpl_depend.proofs.HeadSets.{no_head_more, no_heads_yet}
@@ -10,7 +10,7 @@ loop-init c = record { none = subst (λ (heads : Heads). NoHeads 0 (places_for c
 pub loop-preserved : goal.loop-preserved
 loop-preserved c = record {
   none = subst (λ (heads : Heads). NoHeads (c.loop.counter + 1) (places_for c.args.variables) heads) (sym c.in_ok-push.ensures.items)
-      (no_head_more c.loop.counter (places_for c.args.variables) c.loop.heads.items c.in_ok-vec.field-0 c.loop.invariant.none (search rules));
+      (no_head_more c.loop.counter (places_for c.args.variables) c.loop.heads.items c.in_ok-of.field-0 c.loop.invariant.none c.in_ok-of.ensures);
 }
 
 pub returns : goal.returns

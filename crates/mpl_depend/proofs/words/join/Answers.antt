@@ -1,6 +1,9 @@
 use Rattle.std.proofs.Common.{arith}
-use Rattle.mpl_depend.proofs.WordSets.{all_joined, sized_as}
+use Rattle.mpl_depend.proofs.WordSets.{all_joined, joining_begins, sized_as}
 use Rattle.mpl_depend.proofs.words.join.Goals as goal
+
+pub loop-number-init : goal.loop-number-init
+loop-number-init c = joining_begins c.args.words.now c.args.more.now c.requires
 
 pub returns : goal.returns
 returns c = record {
