@@ -81,7 +81,7 @@ walk_both-walk-requires-2 t c = (
 
 pub walk_both-returns : goal.walk_both-returns
 walk_both-returns t c =
-    walked_either (ways_seen c.args.one.now) (ways_seen c.args.other.now) c.args.next c.in_ok-middle.middle c.in_ok-behind.behind c.args.flags.now c.walk.new.flags c.walk-2.new.flags c.join.new.flags
+    walked_either (ways_seen c.args.one.now) (ways_seen c.args.other.now) c.args.next c.in_ok-middle.middle c.in_ok-behind.behind c.args.flags.now c.walk.new.flags c.walk-2.new.flags c.join.new.self
     c.args.heads.now c.walk.new.heads c.walk-2.new.heads c.args.marks.now.items c.walk.new.marks.items c.walk-2.new.marks.items c.in_ok-middle.ensures
     (subst (λ flags. Walked (ways_seen c.args.other.now) c.in_ok-middle.middle c.in_ok-behind.behind flags c.walk-2.new.flags c.walk.new.heads c.walk-2.new.heads c.walk.new.marks.items c.walk-2.new.marks.items) c.requires.copy c.in_ok-behind.ensures)
     c.join.ensures
@@ -95,7 +95,7 @@ round-walk-requires-2 t c = (
 
 pub rounds-loop-alloc-init : goal.rounds-loop-alloc-init
 rounds-loop-alloc-init t c = record {
-  going = going_begins (ways_seen c.args.test.now) (ways_seen c.args.body.now) c.args.flags.now c.args.number c.args.fresh.now c.clear.new.flags c.args.heads.now c.args.marks.now.items
+  going = going_begins (ways_seen c.args.test.now) (ways_seen c.args.body.now) c.args.flags.now c.args.number c.args.fresh.now c.clear.new.self c.args.heads.now c.args.marks.now.items
       c.requires.fresh c.clear.ensures.sized c.clear.ensures.none;
 }
 
