@@ -73,20 +73,20 @@ put_flags words place new flag within here others = ext_get_or false (flags_of a
   there : (n : ℕ) → n ≢ place → has_place after n ≡ has_place words n
   there n differ = elim (same_or_other (n / 64) (place / 64)) [
     | inl same ↦ ap (λ k. eqb (bit_at (word after k) (n % 64)) 1) same
-      ∙ ap (λ w. eqb (bit_at w (n % 64)) 1) (get_or-set_same words (place / 64) new 0 (within_words words place within))
-      ∙ ap (λ b. eqb b 1) (others (n % 64) (omega arith) (λ e. differ (omega arith)))
-      ∙ sym (ap (λ k. eqb (bit_at (word words k) (n % 64)) 1) same)
+        ∙ ap (λ w. eqb (bit_at w (n % 64)) 1) (get_or-set_same words (place / 64) new 0 (within_words words place within))
+        ∙ ap (λ b. eqb b 1) (others (n % 64) (omega arith) (λ e. differ (omega arith)))
+        ∙ sym (ap (λ k. eqb (bit_at (word words k) (n % 64)) 1) same)
     | inr apart ↦ ap (λ w. eqb (bit_at w (n % 64)) 1) (get_or-set_other words (place / 64) (n / 64) new 0 apart)
   ]
 
   at : (n : ℕ) → set_of (flags_of after) n ≡ set_of (set (flags_of words) place flag) n
   at n = elim (same_or_other n place) [
     | inl same ↦ subst (λ n. set_of (flags_of after) n ≡ set_of (set (flags_of words) place flag) n) (sym same) (
-      flag_is after place
-      ∙ ap (λ w. eqb (bit_at w (place % 64)) 1) (get_or-set_same words (place / 64) new 0 (within_words words place within))
-      ∙ here
-      ∙ sym (get_or-set_same (flags_of words) place flag false within)
-    )
+        flag_is after place
+        ∙ ap (λ w. eqb (bit_at w (place % 64)) 1) (get_or-set_same words (place / 64) new 0 (within_words words place within))
+        ∙ here
+        ∙ sym (get_or-set_same (flags_of words) place flag false within)
+        )
     | inr differ ↦ flag_is after n ∙ there n differ ∙ sym (flag_is words n) ∙ sym (get_or-set_other (flags_of words) place n flag false differ)
   ]
 
@@ -263,8 +263,8 @@ taking_goes_on head0 fresh0 head fresh any after number wide new within wide_is 
   ];
   none = λ off. elim (eq-zero-or-pos new) [
     | inl nothing ↦ with_this (λ n. word (set fresh number new) n ≡ 0) number
-      (λ n less. fresh_there n (λ e. absurd (let e' : n ≡ number = e in omega arith)) ∙ t.none (sym (with_new.0 nothing) ∙ off) n less)
-      (fresh_here ∙ nothing)
+        (λ n less. fresh_there n (λ e. absurd (let e' : n ≡ number = e in omega arith)) ∙ t.none (sym (with_new.0 nothing) ∙ off) n less)
+        (fresh_here ∙ nothing)
     | inr something ↦ absurd (true≢false (sym (with_new.1 something) ∙ off))
   ];
 } where
@@ -322,10 +322,10 @@ taken head fresh wide new any t = record {
   ];
   grown = λ some. grows (t.some some);
   none = λ off place h. of_bit head place (
-    let here : bit_of fresh place ≡ 1 = has_bit fresh place h in
-    let none : bit_of new place ≡ 0 = ap (λ n. bit_at n (place % 64)) (t.none off (place / 64)) ∙ bit_at-zero (place % 64) in
-    omega (arith, both place, gone place, here, none, low place)
-  );
+      let here : bit_of fresh place ≡ 1 = has_bit fresh place h in
+      let none : bit_of new place ≡ 0 = ap (λ n. bit_at n (place % 64)) (t.none off (place / 64)) ∙ bit_at-zero (place % 64) in
+      omega (arith, both place, gone place, here, none, low place)
+      );
 } where
   together : Joined (flags_of head) (flags_of fresh) (flags_of wide)
   together = joined head fresh wide (record { sized = t.sized; each = t.each })

@@ -42,9 +42,7 @@ impl VariableSet {
     {
         let mut words = Vec::new(alloc);
         words.extend_from_slice(self.words.as_slice())?;
-        Ok(VariableSet {
-            words,
-        })
+        Ok(VariableSet { words })
     }
 
     /// A path comes here.

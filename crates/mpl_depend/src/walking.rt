@@ -165,15 +165,7 @@ fn walk_either(
 {
     let mut copy = flags.copy(alloc)?;
     walk_both(
-        alloc,
-        one,
-        other,
-        ends,
-        next,
-        heads,
-        flags,
-        &mut copy,
-        marks,
+        alloc, one, other, ends, next, heads, flags, &mut copy, marks,
     )
 }
 
@@ -216,15 +208,7 @@ fn walk_loop(
 {
     let mut fresh = flags.copy(alloc)?;
     rounds(
-        alloc,
-        test,
-        body,
-        ends,
-        next,
-        heads,
-        &mut fresh,
-        flags,
-        marks,
+        alloc, test, body, ends, next, heads, &mut fresh, flags, marks,
     )
 }
 
