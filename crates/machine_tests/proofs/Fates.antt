@@ -1,5 +1,5 @@
 -- What has become of an actor's result, after the calls that change it.
-use Rattle.std.proofs.Common.{◌≡◌, ℕ, Bool, true, false, ◌++◌, [], ◌∷◌, ap, refl, sym, subst, ◌∙◌}
+use Rattle.std.proofs.Common.{◌≡◌, ℕ, Bool, true, false, List, ◌++◌, [], ◌∷◌, ap, refl, sym, subst, ◌∙◌}
 use Rattle.std.specs.Prelude.{Some, None, Option, IsSome, IsTrue, if◌then◌else◌}
 use Rattle.std.specs.Option.{option_map, option_map_or, option_and_then}
 use Rattle.std.specs.FinMap.{get, insert}
@@ -12,6 +12,9 @@ use Rattle.mdf_future.specs.declared.future.Fate.TheVariants as fate
 use Rattle.mdf_future.specs.declared.future.Future.{Future}
 use Rattle.mdf_future.specs.declared.future.Give.{Give}
 use Rattle.mdf_future.specs.Results.{ResultTable, is_known, known_of, may_become, may_give, known_words, consumers_of, opened, waited, waited_at, settled, forwarded}
+use Rattle.mdf_future.specs.Openings.{HaveResults, Passed, opened_with, ports_for}
+use Rattle.mdf_future.specs.Openings as openings
+use Rattle.mdf_future.proofs.Opened.{has_opened}
 use Rattle.machine_tests.proofs.Inserted.{get_inserted}
 
 abbrev pub fate_in : Option Future → Option Fate
@@ -76,3 +79,19 @@ words_are t actor known here = go (get t.results actor) here where
       → option_map_or words_of (option_and_then (λ f. known_of f.fate) o) [] ≡ words_of known
   go None e = absurd (cc)
   go (Some f) e = let same : f.fate ≡ fate.Known known = cc in ap (λ fate. option_map_or words_of (known_of fate) []) same
+
+-- ---- an actor whose ports wait
+
+joined_fate : (more : List Consumer) (o : Option Future) → fate_in (option_map (openings.joined more) o) ≡ fate_in o
+joined_fate more None = refl
+joined_fate more (Some f) = branch (is_known f.fate) where
+  branch : (known : Bool) → Some (if known then f else record f { consumers = f.consumers ++ more }).fate ≡ Some f.fate
+  branch true = refl
+  branch false = refl
+
+pub new_fate : (t : ResultTable) (actor : ℕ) (passed : Passed) → HaveResults t passed → fate_of (opened_with t actor passed) actor ≡ Some fate.Open
+new_fate t actor passed have = ap fate_in (has_opened t actor passed have).new
+
+pub other_fate : (t : ResultTable) (actor other : ℕ) (passed : Passed) → HaveResults t passed → (other ≡ actor → ⊥) → fate_of (opened_with t actor passed) other ≡ fate_of t other
+other_fate t actor other passed have differs =
+    ap fate_in ((has_opened t actor passed have).others other differs) ∙ joined_fate (ports_for other actor 0 passed) (get t.results other)

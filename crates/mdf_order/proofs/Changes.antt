@@ -104,7 +104,7 @@ sum-take-push count [] x (suc (suc n)) none = omega (arith, none)
 sum-take-push count (y ∷ row) x (suc n) none =
     sum_by-cons count y (take n (row ++ x ∷ [])) ∙ ap (λ m. count y + m) (sum-take-push count row x n none) ∙ sym (sum_by-cons count y (take n row))
 
-sum-block-push : {X : Type 0} (count : X → ℕ) (row : List X) (x : X) (start : ℕ) → count x ≡ 0
+pub sum-block-push : {X : Type 0} (count : X → ℕ) (row : List X) (x : X) (start : ℕ) → count x ≡ 0
     → sum_by count (take BLOCK (drop start (row ++ x ∷ []))) ≡ sum_by count (take BLOCK (drop start row))
 sum-block-push count row x zero none = sum-take-push count row x BLOCK none
 sum-block-push count [] x (suc zero) none = refl

@@ -3,3 +3,4 @@ pub mod InOrderSerials
 pub mod Items
 mod Marks
 mod Sums
+mod Popped

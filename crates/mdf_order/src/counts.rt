@@ -1,4 +1,4 @@
-ghost use Rattle.std.specs.Prelude.{◌≡◌, ◌+◌, ◌-◌, ◌^◌, ◌<◌, [], ◌∷◌, ◌++◌, length, OnOk, OnErr, IfOk, slice_index, slice_set};
+ghost use Rattle.std.specs.Prelude.{◌≡◌, ◌+◌, ◌-◌, ◌^◌, ◌<◌, [], ◌∷◌, ◌++◌, length, OnOk, OnErr, IfOk, slice_index, slice_set, take};
 ghost use Rattle.std.specs.List.{sum};
 ghost use Rattle.mdf_order.specs.Internal.Spots.{IsSpot};
 
@@ -68,6 +68,22 @@ impl Counts {
         }
         self.numbers.push_reserved(0);
         Ok(())
+    }
+
+    /// Takes the last number out, which is 0.
+    pub fn pop(&mut self)
+        requires some { 0 < length self.old }
+        requires none { slice_index self.old (length self.old - 1) ≡ 0 }
+        ensures { self.new ≡ take (length self.old - 1) self.old }
+    {
+        self.numbers.pop();
+        if self.numbers.len() <= BLOCK {
+            self.above = None;
+        } else if self.numbers.len() % BLOCK == 0 {
+            if let Some(above) = &mut self.above {
+                above.pop();
+            }
+        }
     }
 
     /// One more for a number.

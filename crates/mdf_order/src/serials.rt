@@ -1,4 +1,4 @@
-ghost use Rattle.std.specs.Prelude.{◌≡◌, ◌-◌, ◌^◌, ◌<◌, [], ◌∷◌, ◌++◌, false, true, length, IfOk, OnOk, OnErr, slice_get, slice_set};
+ghost use Rattle.std.specs.Prelude.{◌≡◌, ◌-◌, ◌^◌, ◌<◌, [], ◌∷◌, ◌++◌, false, true, length, IfOk, OnOk, OnErr, slice_get, slice_set, take, List, Bool};
 ghost use Rattle.mdf_order.specs.InOrder.{serials_in};
 
 use crate::counts::{BLOCK, Counts};
@@ -54,6 +54,22 @@ impl Serials {
         }
         self.marks.push_reserved(false);
         Ok(serial as u32)
+    }
+
+    /// Takes the newest serial out again, as if it hadn't been added.
+    pub fn withdraw(&mut self)
+        requires { 0 < length self.old }
+        ensures rest { self.new ≡ take (length self.old - 1) self.old }
+
+        // The same, where it is known what was added.
+        ensures undone { (kept : List Bool) (newest : Bool) → self.old ≡ kept ++ newest ∷ [] → self.new ≡ kept }
+    {
+        let newest = self.total() - 1;
+        self.remove(newest);
+        self.marks.pop();
+        if newest as usize % BLOCK == 0 {
+            self.blocks.pop();
+        }
     }
 
     pub fn insert(&mut self, serial: u32)
