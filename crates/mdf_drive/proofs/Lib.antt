@@ -15,3 +15,4 @@ pub mod FittingFrames
 pub mod FittingLogs
 pub mod HandedOut
 pub mod DriveOrders
+pub mod MainEnding

@@ -2,3 +2,4 @@ pub mod Plain
 pub mod AtRest
 pub mod Handing
 pub mod DriveOrder
+pub mod MainEnds

@@ -4,6 +4,7 @@
 mod driving;
 mod handing;
 mod laws;
+mod main_ends;
 
 pub use driving::tokens_are_matched_and_actors_go_on;
 pub use handing::frames_hand_out_little;
@@ -12,3 +13,4 @@ pub use laws::{
     logs_over_the_budget_are_spent, orders_do_not_matter, programs_of_regular_classes_are_plain,
     results_are_answers,
 };
+pub use main_ends::{main_does_one_thing, main_ends_or_waits_at_rest};
