@@ -104,8 +104,7 @@ main_waits job log child stood h is halts =
 
 pub main_did_one : (job : Job) (w : World) (e other : BodyEnd) (lines more : List ℕ) → MainDid job w e lines → MainDid job w other more → (e ≡ other) × (lines ≡ more)
 main_did_one job w e other lines more did also =
-    let same = one_halt job.image (w.actors 0).start (w.actors 0).told did.stood also.stood did.halts also.halts in
-    (
+    let same = one_halt job.image (w.actors 0).start (w.actors 0).told did.stood also.stood did.halts also.halts in (
       sym did.ended ∙ ap (λ (s : Stood). end_at s.halt) same ∙ also.ended,
       sym did.printed ∙ ap (λ (s : Stood). s.frame.lines) same ∙ also.printed,
     )
