@@ -71,3 +71,17 @@ fn serials_are_those_of_a_plain_list(rt: HostRuntime) -> Result<(), Fail> {
     }
     Ok(())
 }
+
+#[test]
+fn newest_serial_is_withdrawn(rt: HostRuntime) -> Result<(), Fail> {
+    let mut serials = Serials::new(rt.alloc());
+    let first = serials.add()?;
+    let second = serials.add()?;
+    serials.insert(first);
+    serials.insert(second);
+    serials.withdraw();
+    assert_eq!(rt; serials.total(), 1);
+    assert_eq!(rt; serials.len(), 1);
+    assert_eq!(rt; serials.nth(0), Some(first));
+    Ok(())
+}

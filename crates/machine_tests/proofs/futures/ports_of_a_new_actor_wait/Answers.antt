@@ -16,7 +16,7 @@ abbrev IsFourOpen : ResultTable → Type 0
 IsFourOpen t = fate_of t 4 ≡ Some Open
 
 have : (t : ResultTable) → IsFourOpen t → HaveResults t (None ∷ Some 4 ∷ [])
-have t open = (has_result t 4 Open open, tt)
+have t is_open = (has_result t 4 Open is_open, tt)
 
 no_nine : (t : ResultTable) → get t.results 9 ≡ None → get (opened t 4).results 9 ≡ None
 no_nine t none = get-insert nat_cmp_total t.results 4 (record { fate = Open; consumers = [] }) 9 ∙ none
