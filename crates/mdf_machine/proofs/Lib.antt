@@ -1,0 +1,13 @@
+pub mod Changed
+pub mod Keyed
+pub mod One
+pub mod Acting
+pub mod Booted
+pub mod Keeping
+pub mod Seen
+pub mod Parking
+pub mod FrameLaws
+pub mod Arcs
+pub mod KnownResults
+pub mod Giving
+pub mod SentArcs

@@ -1,0 +1,4 @@
+pub mod Courses
+pub mod Frames
+pub mod Answers
+pub mod Internal
