@@ -1,0 +1,31 @@
+use Rattle.std.proofs.Common.{length, map, drop, ◌+◌, ◌*◌}
+use Rattle.mpl_depend.specs.Internal.SeenWays.{all_seen, ways_seen}
+use Rattle.mpl_depend.specs.Internal.Walking.{size}
+use Rattle.mpl_depend.proofs.tracing.+trace.Given as goal
+
+abbrev pub decreases-trace : goal.decreases-trace
+decreases-trace l = 8 * size (ways_seen l.ways.now) + 3
+
+abbrev pub decreases-trace_then : goal.decreases-trace_then
+decreases-trace_then l = 8 * (size (ways_seen l.first.now) + size (ways_seen l.second.now)) + 4
+
+abbrev pub decreases-trace_all : goal.decreases-trace_all
+decreases-trace_all l = 8 * size (all_seen (map ways_seen l.list.now)) + 2
+
+abbrev pub decreases-trace_either : goal.decreases-trace_either
+decreases-trace_either l = 8 * (size (ways_seen l.one.now) + size (ways_seen l.other.now)) + 6
+
+abbrev pub decreases-trace_both : goal.decreases-trace_both
+decreases-trace_both l = 8 * (size (ways_seen l.one.now) + size (ways_seen l.other.now)) + 5
+
+abbrev pub decreases-trace_loop : goal.decreases-trace_loop
+decreases-trace_loop l = 8 * (size (ways_seen l.test.now) + size (ways_seen l.body.now)) + 7
+
+abbrev pub decreases-trace_opened : goal.decreases-trace_opened
+decreases-trace_opened l = 8 * (size (ways_seen l.test.now) + size (ways_seen l.body.now)) + 6
+
+abbrev pub decreases-trace_round : goal.decreases-trace_round
+decreases-trace_round l = 8 * (size (ways_seen l.test.now) + size (ways_seen l.body.now)) + 5
+
+abbrev pub decreases-trace_body : goal.decreases-trace_body
+decreases-trace_body l = 8 * size (ways_seen l.body.now) + 4
