@@ -1,4 +1,0 @@
-pub mod Courses
-pub mod Frames
-pub mod Answers
-pub mod Internal
