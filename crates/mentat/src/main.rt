@@ -1,4 +1,4 @@
-//! `mentat run FILE` runs the MPL program in FILE. It ends with the number of the command's status.
+//! `mentat run FILE`, with options behind it, runs the MPL program in FILE. It ends with the number of the command's status.
 #![tactic(auto)]
 
 use mentat_cmd::{Status, quiet_command};

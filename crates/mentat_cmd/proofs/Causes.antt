@@ -7,7 +7,7 @@ use Rattle.mpl_value.specs.declared.body.BodyEnd.{BodyEnd}
 use Rattle.mpl_value.specs.declared.body.BodyEnd.TheVariants as end
 use Rattle.mpl_value.specs.declared.body.Yield.{Yield}
 use Rattle.mpl_mean.specs.Accepted.{IsAccepted}
-use Rattle.mpl_mean.specs.Limits.{most_source_bytes, usual_budget}
+use Rattle.mpl_mean.specs.Limits.{most_source_bytes}
 use Rattle.mpl_mean.specs.Meaning.DirectRun.{direct_run}
 use Rattle.mpl_mean.specs.Text.Lexemes.{LexicalFault, BadByte, OpenComment, WideNumber, tokens_of}
 use Rattle.mpl_mean.specs.Text.ParseFaults.{HasLightProgram, IsSyntaxFault, IsTooDeep}
@@ -61,10 +61,10 @@ one_program one_tree source p q a b =
     let same : a.tokens ≡ b.tokens = ok_same (tokens_of source) a.tokens b.tokens a.lexed b.lexed in
     one_tree p q b.tokens (subst (λ (ts : List Token). spells p ts ≡ true) same a.spelled) b.spelled
 
-one_run : OneTree → (source : List ℕ) (numbers : List ℤ) (y z : Yield) → Runs source numbers y → Runs source numbers z → y ≡ z
-one_run one_tree source numbers y z r s =
+one_run : OneTree → (budget : ℕ) (source : List ℕ) (numbers : List ℤ) (y z : Yield) → Runs budget source numbers y → Runs budget source numbers z → y ≡ z
+one_run one_tree budget source numbers y z r s =
     r.yield
-    ∙ ap (λ (p : Program). direct_run p numbers usual_budget) (one_program one_tree source r.program s.program r.source_is.accepted s.source_is.accepted)
+    ∙ ap (λ (p : Program). direct_run p numbers budget) (one_program one_tree source r.program s.program r.source_is.accepted s.source_is.accepted)
     ∙ sym s.yield
 
 -- a program without persistent classes is none with one
@@ -193,48 +193,48 @@ abbrev read_of : List ℕ → List ℕ
 read_of left = take (most_input_bytes + 1) left
 
 -- a source is too long, is refused, has a persistent class, asks for an input that gives no numbers, or runs
-data Found (source left : List ℕ) (s : Status) (turns : ℕ) : Type 0 where
-  long : most_source_bytes < length source → s ≡ status.TooLong → turns ≡ 0 → Found source left s turns
-  wrong : length source ≤ most_source_bytes → (r : Refusal) → Refused source r → s ≡ status.Refused r → turns ≡ 0 → Found source left s turns
-  none : (at : ℕ) → IsUnbuilt source at → s ≡ status.Unbuilt at → turns ≡ 0 → Found source left s turns
-  faulty : NeedsInput source → (e : InputFault) → IsDecided (Err e) → IsInput (read_of left) (Err e) → s ≡ fault_status e → turns ≡ 0 → Found source left s turns
-  ran : (numbers : List ℤ) (y : Yield) → IsGiven source (told_input left) numbers → Runs source numbers y → s ≡ status_of y.end → turns ≡ y.turns → Found source left s turns
+data Found (budget : ℕ) (source left : List ℕ) (s : Status) (turns : ℕ) : Type 0 where
+  long : most_source_bytes < length source → s ≡ status.TooLong → turns ≡ 0 → Found budget source left s turns
+  wrong : length source ≤ most_source_bytes → (r : Refusal) → Refused source r → s ≡ status.Refused r → turns ≡ 0 → Found budget source left s turns
+  none : (at : ℕ) → IsUnbuilt source at → s ≡ status.Unbuilt at → turns ≡ 0 → Found budget source left s turns
+  faulty : NeedsInput source → (e : InputFault) → IsDecided (Err e) → IsInput (read_of left) (Err e) → s ≡ fault_status e → turns ≡ 0 → Found budget source left s turns
+  ran : (numbers : List ℤ) (y : Yield) → IsGiven source (told_input left) numbers → Runs budget source numbers y → s ≡ status_of y.end → turns ≡ y.turns → Found budget source left s turns
 
 -- what is found of an input that is told
 input_is : (left : List ℕ) (answer : Answer) → Finds (told_input left) answer → IsInput (read_of left) answer
 input_is left answer f = subst (λ (bytes : List ℕ). IsInput bytes answer) f.1 f.2
 
-found_too_long : (source left : List ℕ) (turns : ℕ) → IsTooLong source (told_input left) → turns ≡ 0 → Found source left status.TooLong turns
-found_too_long source left turns (inl h) zero = long h.0 refl zero
-found_too_long source left turns (inr h) zero = faulty h.0 fault.TooLong tt (input_is left (Err fault.TooLong) h.1) refl zero
+found_too_long : (budget : ℕ) (source left : List ℕ) (turns : ℕ) → IsTooLong source (told_input left) → turns ≡ 0 → Found budget source left status.TooLong turns
+found_too_long budget source left turns (inl h) zero = long h.0 refl zero
+found_too_long budget source left turns (inr h) zero = faulty h.0 fault.TooLong tt (input_is left (Err fault.TooLong) h.1) refl zero
 
-found_in : (source left : List ℕ) (s : Status) (turns : ℕ) → IsExact s → Answers source (told_input left) any_stream any_stream s turns → Found source left s turns
-found_in source left status.Done turns x c = ran c.numbers c.done c.given c.runs (sym (ap status_of c.ends.0)) c.takes
-found_in source left (status.Trap trap) turns x c = ran c.numbers c.done c.given c.runs (sym (ap status_of c.ends.0)) c.takes
-found_in source left status.Spent turns x c = ran c.numbers c.done c.given c.runs (sym (ap status_of c.ends.0)) c.takes
-found_in source left status.Stuck turns x c = absurd c
-found_in source left status.TooLong turns x c = found_too_long source left turns c.0 c.1.0
-found_in source left (status.Refused r) turns x c = wrong c.0 r (refused source r c.1) refl c.3.0
-found_in source left (status.Unbuilt at) turns x c = none at c.0 refl c.2.0
-found_in source left (status.BadInput at) turns x c = faulty c.0 (fault.BadInput at) tt (input_is left (Err (fault.BadInput at)) c.1) refl c.2.0
-found_in source left status.Usage turns x c = absurd x
-found_in source left status.ReadFault turns x c = absurd x
-found_in source left status.WriteFault turns x c = absurd x
-found_in source left status.NoMemory turns x c = absurd x
+found_in : (budget : ℕ) (source left : List ℕ) (s : Status) (turns : ℕ) → IsExact s → Answers budget source (told_input left) any_stream any_stream s turns → Found budget source left s turns
+found_in budget source left status.Done turns x c = ran c.numbers c.done c.given c.runs (sym (ap status_of c.ends.0)) c.takes
+found_in budget source left (status.Trap trap) turns x c = ran c.numbers c.done c.given c.runs (sym (ap status_of c.ends.0)) c.takes
+found_in budget source left status.Spent turns x c = ran c.numbers c.done c.given c.runs (sym (ap status_of c.ends.0)) c.takes
+found_in budget source left status.Stuck turns x c = absurd c
+found_in budget source left status.TooLong turns x c = found_too_long budget source left turns c.0 c.1.0
+found_in budget source left (status.Refused r) turns x c = wrong c.0 r (refused source r c.1) refl c.3.0
+found_in budget source left (status.Unbuilt at) turns x c = none at c.0 refl c.2.0
+found_in budget source left (status.BadInput at) turns x c = faulty c.0 (fault.BadInput at) tt (input_is left (Err (fault.BadInput at)) c.1) refl c.2.0
+found_in budget source left status.Usage turns x c = absurd x
+found_in budget source left status.ReadFault turns x c = absurd x
+found_in budget source left status.WriteFault turns x c = absurd x
+found_in budget source left status.NoMemory turns x c = absurd x
 
-found : (files : Files) (name left : List ℕ) (s : Status) (turns : ℕ) → IsExact s → IsCause files name left s turns → (source : List ℕ) × IsRead (Some files) name source × Found source left s turns
-found files name left status.Done turns x c = (c.0, c.1, found_in c.0 left status.Done turns x c.2)
-found files name left (status.Trap trap) turns x c = (c.0, c.1, found_in c.0 left (status.Trap trap) turns x c.2)
-found files name left status.Stuck turns x c = (c.0, c.1, found_in c.0 left status.Stuck turns x c.2)
-found files name left status.Spent turns x c = (c.0, c.1, found_in c.0 left status.Spent turns x c.2)
-found files name left status.TooLong turns x c = (c.0, c.1, found_in c.0 left status.TooLong turns x c.2)
-found files name left (status.Refused r) turns x c = (c.0, c.1, found_in c.0 left (status.Refused r) turns x c.2)
-found files name left (status.Unbuilt at) turns x c = (c.0, c.1, found_in c.0 left (status.Unbuilt at) turns x c.2)
-found files name left (status.BadInput at) turns x c = (c.0, c.1, found_in c.0 left (status.BadInput at) turns x c.2)
-found files name left status.Usage turns x c = absurd x
-found files name left status.ReadFault turns x c = absurd x
-found files name left status.WriteFault turns x c = absurd x
-found files name left status.NoMemory turns x c = absurd x
+found : (budget : ℕ) (files : Files) (name left : List ℕ) (s : Status) (turns : ℕ) → IsExact s → IsCause budget files name left s turns → (source : List ℕ) × IsRead (Some files) name source × Found budget source left s turns
+found budget files name left status.Done turns x c = (c.0, c.1, found_in budget c.0 left status.Done turns x c.2)
+found budget files name left (status.Trap trap) turns x c = (c.0, c.1, found_in budget c.0 left (status.Trap trap) turns x c.2)
+found budget files name left status.Stuck turns x c = (c.0, c.1, found_in budget c.0 left status.Stuck turns x c.2)
+found budget files name left status.Spent turns x c = (c.0, c.1, found_in budget c.0 left status.Spent turns x c.2)
+found budget files name left status.TooLong turns x c = (c.0, c.1, found_in budget c.0 left status.TooLong turns x c.2)
+found budget files name left (status.Refused r) turns x c = (c.0, c.1, found_in budget c.0 left (status.Refused r) turns x c.2)
+found budget files name left (status.Unbuilt at) turns x c = (c.0, c.1, found_in budget c.0 left (status.Unbuilt at) turns x c.2)
+found budget files name left (status.BadInput at) turns x c = (c.0, c.1, found_in budget c.0 left (status.BadInput at) turns x c.2)
+found budget files name left status.Usage turns x c = absurd x
+found budget files name left status.ReadFault turns x c = absurd x
+found budget files name left status.WriteFault turns x c = absurd x
+found budget files name left status.NoMemory turns x c = absurd x
 
 too_short : (source : List ℕ) → most_source_bytes < length source → length source ≤ most_source_bytes → ⊥
 too_short source h k = omega (arith, h, k)
@@ -268,39 +268,39 @@ one_given source left ns ms (inr g) (inr h) =
 
 -- ---- one answer
 
-one_found : OneTree → OneFault → (source left : List ℕ) (s t : Status) (m n : ℕ) → Found source left s m → Found source left t n → (s ≡ t) × (m ≡ n)
-one_found tree one source left s t m n (long h is zero) (long k js also) = (is ∙ sym js, zero ∙ sym also)
-one_found tree one source left s t m n (long h is zero) (wrong k r w js also) = absurd (too_short source h k)
-one_found tree one source left s t m n (long h is zero) (none at u js also) = absurd (too_short source h u.accepted.short)
-one_found tree one source left s t m n (long h is zero) (faulty a e x i js also) = absurd (too_short source h a.source_is.accepted.short)
-one_found tree one source left s t m n (long h is zero) (ran ns y g r js takes) = absurd (too_short source h r.source_is.accepted.short)
-one_found tree one source left s t m n (wrong h r w is zero) (long k js also) = absurd (too_short source k h)
-one_found tree one source left s t m n (wrong h r w is zero) (wrong k q v js also) = (is ∙ ap status.Refused (one_refusal tree one source r q w v) ∙ sym js, zero ∙ sym also)
-one_found tree one source left s t m n (wrong h r w is zero) (none at u js also) = absurd (not_refused tree one source r u.program w u.accepted)
-one_found tree one source left s t m n (wrong h r w is zero) (faulty a e x i js also) = absurd (not_refused tree one source r a.program w a.source_is.accepted)
-one_found tree one source left s t m n (wrong h q w is zero) (ran ns y g r js takes) = absurd (not_refused tree one source q r.program w r.source_is.accepted)
-one_found tree one source left s t m n (none at u is zero) (long k js also) = absurd (too_short source k u.accepted.short)
-one_found tree one source left s t m n (none at u is zero) (wrong k r w js also) = absurd (not_refused tree one source r u.program w u.accepted)
-one_found tree one source left s t m n (none at u is zero) (none place v js also) = (is ∙ ap status.Unbuilt (one_place tree source at place u v) ∙ sym js, zero ∙ sym also)
-one_found tree one source left s t m n (none at u is zero) (faulty a e x i js also) = absurd (not_unbuilt tree source a.program at a.source_is u)
-one_found tree one source left s t m n (none at u is zero) (ran ns y g r js takes) = absurd (not_unbuilt tree source r.program at r.source_is u)
-one_found tree one source left s t m n (faulty a e x i is zero) (long k js also) = absurd (too_short source k a.source_is.accepted.short)
-one_found tree one source left s t m n (faulty a e x i is zero) (wrong k r w js also) = absurd (not_refused tree one source r a.program w a.source_is.accepted)
-one_found tree one source left s t m n (faulty a e x i is zero) (none at u js also) = absurd (not_unbuilt tree source a.program at a.source_is u)
-one_found tree one source left s t m n (faulty a e x i is zero) (faulty b f y j js also) = (is ∙ ap fault_status (one_fault left e f x y i j) ∙ sym js, zero ∙ sym also)
-one_found tree one source left s t m n (faulty a e x i is zero) (ran ns y g r js takes) = absurd (not_faulty source left e ns a.asks x i g)
-one_found tree one source left s t m n (ran ns y g r is takes) (long k js also) = absurd (too_short source k r.source_is.accepted.short)
-one_found tree one source left s t m n (ran ns y g r is takes) (wrong k q w js also) = absurd (not_refused tree one source q r.program w r.source_is.accepted)
-one_found tree one source left s t m n (ran ns y g r is takes) (none at u js also) = absurd (not_unbuilt tree source r.program at r.source_is u)
-one_found tree one source left s t m n (ran ns y g r is takes) (faulty a e x i js also) = absurd (not_faulty source left e ns a.asks x i g)
-one_found tree one source left s t m n (ran ns y g r is takes) (ran ms z h q js also) =
+one_found : (budget : ℕ) → OneTree → OneFault → (source left : List ℕ) (s t : Status) (m n : ℕ) → Found budget source left s m → Found budget source left t n → (s ≡ t) × (m ≡ n)
+one_found budget tree one source left s t m n (long h is zero) (long k js also) = (is ∙ sym js, zero ∙ sym also)
+one_found budget tree one source left s t m n (long h is zero) (wrong k r w js also) = absurd (too_short source h k)
+one_found budget tree one source left s t m n (long h is zero) (none at u js also) = absurd (too_short source h u.accepted.short)
+one_found budget tree one source left s t m n (long h is zero) (faulty a e x i js also) = absurd (too_short source h a.source_is.accepted.short)
+one_found budget tree one source left s t m n (long h is zero) (ran ns y g r js takes) = absurd (too_short source h r.source_is.accepted.short)
+one_found budget tree one source left s t m n (wrong h r w is zero) (long k js also) = absurd (too_short source k h)
+one_found budget tree one source left s t m n (wrong h r w is zero) (wrong k q v js also) = (is ∙ ap status.Refused (one_refusal tree one source r q w v) ∙ sym js, zero ∙ sym also)
+one_found budget tree one source left s t m n (wrong h r w is zero) (none at u js also) = absurd (not_refused tree one source r u.program w u.accepted)
+one_found budget tree one source left s t m n (wrong h r w is zero) (faulty a e x i js also) = absurd (not_refused tree one source r a.program w a.source_is.accepted)
+one_found budget tree one source left s t m n (wrong h q w is zero) (ran ns y g r js takes) = absurd (not_refused tree one source q r.program w r.source_is.accepted)
+one_found budget tree one source left s t m n (none at u is zero) (long k js also) = absurd (too_short source k u.accepted.short)
+one_found budget tree one source left s t m n (none at u is zero) (wrong k r w js also) = absurd (not_refused tree one source r u.program w u.accepted)
+one_found budget tree one source left s t m n (none at u is zero) (none place v js also) = (is ∙ ap status.Unbuilt (one_place tree source at place u v) ∙ sym js, zero ∙ sym also)
+one_found budget tree one source left s t m n (none at u is zero) (faulty a e x i js also) = absurd (not_unbuilt tree source a.program at a.source_is u)
+one_found budget tree one source left s t m n (none at u is zero) (ran ns y g r js takes) = absurd (not_unbuilt tree source r.program at r.source_is u)
+one_found budget tree one source left s t m n (faulty a e x i is zero) (long k js also) = absurd (too_short source k a.source_is.accepted.short)
+one_found budget tree one source left s t m n (faulty a e x i is zero) (wrong k r w js also) = absurd (not_refused tree one source r a.program w a.source_is.accepted)
+one_found budget tree one source left s t m n (faulty a e x i is zero) (none at u js also) = absurd (not_unbuilt tree source a.program at a.source_is u)
+one_found budget tree one source left s t m n (faulty a e x i is zero) (faulty b f y j js also) = (is ∙ ap fault_status (one_fault left e f x y i j) ∙ sym js, zero ∙ sym also)
+one_found budget tree one source left s t m n (faulty a e x i is zero) (ran ns y g r js takes) = absurd (not_faulty source left e ns a.asks x i g)
+one_found budget tree one source left s t m n (ran ns y g r is takes) (long k js also) = absurd (too_short source k r.source_is.accepted.short)
+one_found budget tree one source left s t m n (ran ns y g r is takes) (wrong k q w js also) = absurd (not_refused tree one source q r.program w r.source_is.accepted)
+one_found budget tree one source left s t m n (ran ns y g r is takes) (none at u js also) = absurd (not_unbuilt tree source r.program at r.source_is u)
+one_found budget tree one source left s t m n (ran ns y g r is takes) (faulty a e x i js also) = absurd (not_faulty source left e ns a.asks x i g)
+one_found budget tree one source left s t m n (ran ns y g r is takes) (ran ms z h q js also) =
     let numbers : ns ≡ ms = one_given source left ns ms g h in
-    let same : y ≡ z = one_run tree source ms y z (subst (λ (ks : List ℤ). Runs source ks y) numbers r) q in
+    let same : y ≡ z = one_run tree budget source ms y z (subst (λ (ks : List ℤ). Runs budget source ks y) numbers r) q in
     (is ∙ ap (λ (w : Yield). status_of w.end) same ∙ sym js, takes ∙ ap (λ (w : Yield). w.turns) same ∙ sym also)
 
-pub causes_exclude : OneTree → OneFault → (files : Files) (name left : List ℕ) (s t : Status) (m n : ℕ) → IsExact s → IsExact t → IsCause files name left s m → IsCause files name left t n → (s ≡ t) × (m ≡ n)
-causes_exclude tree one files name left s t m n x z c d =
-    let a = found files name left s m x c in
-    let b = found files name left t n z d in
+pub causes_exclude : OneTree → OneFault → (budget : ℕ) (files : Files) (name left : List ℕ) (s t : Status) (m n : ℕ) → IsExact s → IsExact t → IsCause budget files name left s m → IsCause budget files name left t n → (s ≡ t) × (m ≡ n)
+causes_exclude tree one budget files name left s t m n x z c d =
+    let a = found budget files name left s m x c in
+    let b = found budget files name left t n z d in
     let same : a.0 ≡ b.0 = some_same _ a.0 b.0 a.1.1 b.1.1 in
-    one_found tree one b.0 left s t m n (subst (λ source. Found source left s m) same a.2) b.2
+    one_found budget tree one b.0 left s t m n (subst (λ source. Found budget source left s m) same a.2) b.2

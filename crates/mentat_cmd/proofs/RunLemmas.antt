@@ -4,7 +4,6 @@ use Rattle.std.specs.FinMap.{FinMap, empty}
 use Rattle.mpl_ast.specs.declared.program.Program.{Program}
 use Rattle.mpl_mean.specs.Laws.Sizes.{StartFits}
 use Rattle.mpl_mean.specs.Laws.Waiting.{HasPersistent}
-use Rattle.mpl_mean.specs.Limits.{usual_budget}
 use Rattle.mpl_mean.specs.Meaning.BodyMeaning.{yield_of}
 use Rattle.mpl_mean.specs.Meaning.DirectRun.{direct_run, main_start}
 use Rattle.mpl_mean.specs.TypeRules.Rules.{is_typed}
@@ -45,7 +44,7 @@ faulty source input p true e built is g = (record { program = p; source_is = bui
 faulty source input p false e built is g = absurd g
 
 -- a program without persistent classes never waits
-pub never_waits : (source : List ℕ) (p : Program) (input : List ℤ) (y : Yield) → IsBuilt source p → y ≡ direct_run p input usual_budget
+pub never_waits : (budget : ℕ) (source : List ℕ) (p : Program) (input : List ℤ) (y : Yield) → IsBuilt source p → y ≡ direct_run p input budget
     → ((q : Program) (numbers : List ℤ) (n : ℕ) → is_typed q ≡ true → (HasPersistent q.declarations → ⊥) → (direct_run q numbers n).end ≢ Waits) → y.end ≡ Waits → ⊥
-never_waits source p input y built is law waits =
-    law p input usual_budget built.accepted.typed (no_persistent p.declarations built.regular) (sym (ap (λ (z : Yield). z.end) is) ∙ waits)
+never_waits budget source p input y built is law waits =
+    law p input budget built.accepted.typed (no_persistent p.declarations built.regular) (sym (ap (λ (z : Yield). z.end) is) ∙ waits)

@@ -2,7 +2,7 @@
 use Rattle.std.specs.Prelude.{◌≡◌, ◌⊎◌, ℕ, ◌+◌, ◌<◌, ◌≤◌, Bool, true, false, ℤ, List, [], Option, Some, None, Ok, Err, length, IfSome, IsSome, IsTrue}
 use Rattle.mentat_io.specs.Causes.{Rose}
 use Rattle.mentat_io.specs.Shelf.{Files, IsStartOf, file_named}
-use Rattle.mpl_mean.specs.Limits.{most_source_bytes, usual_budget}
+use Rattle.mpl_mean.specs.Limits.{most_source_bytes}
 use Rattle.mpl_value.specs.declared.body.BodyEnd.{BodyEnd}
 use Rattle.mpl_value.specs.declared.body.BodyEnd.TheVariants as end
 use Rattle.mpl_value.specs.declared.body.Yield.{Yield}
@@ -69,13 +69,13 @@ IsUnwritten y out err =
     ⊎ ((s : Status) × IsStatusOf y.end s × IsReported s × out.whole y.lines × err.front (message s) × err.fault)
 
 -- how a run ends, as a status
-abbrev pub Ends : Yield → (out err : Stream) → Status → Type 0
-Ends y out err status.Done = (y.end ≡ end.Done) × out.whole y.lines × err.whole []
-Ends y out err (status.Trap trap) = (y.end ≡ end.Trap trap) × out.whole y.lines × err.whole (message (status.Trap trap))
-Ends y out err status.Stuck = (y.end ≡ end.Waits) × out.whole y.lines × err.whole (message status.Stuck)
-Ends y out err status.Spent = (y.end ≡ end.Spent) × (y.turns ≡ usual_budget + 1) × Says err (message status.Spent)
-Ends y out err status.WriteFault = IsUnwritten y out err
-Ends y out err _ = ⊥
+abbrev pub Ends : ℕ → Yield → (out err : Stream) → Status → Type 0
+Ends budget y out err status.Done = (y.end ≡ end.Done) × out.whole y.lines × err.whole []
+Ends budget y out err (status.Trap trap) = (y.end ≡ end.Trap trap) × out.whole y.lines × err.whole (message (status.Trap trap))
+Ends budget y out err status.Stuck = (y.end ≡ end.Waits) × out.whole y.lines × err.whole (message status.Stuck)
+Ends budget y out err status.Spent = (y.end ≡ end.Spent) × (y.turns ≡ budget + 1) × Says err (message status.Spent)
+Ends budget y out err status.WriteFault = IsUnwritten y out err
+Ends budget y out err _ = ⊥
 
 -- the status of such a run
 abbrev pub IsOfRun : Status → Type 0
@@ -97,13 +97,13 @@ IsGiven source input numbers =
     ⊎ ((asks_for_input source ≡ true) × Finds input (Ok numbers))
 
 -- the source has a run that ended so, in so many turns
-pub record Finishes (source : List ℕ) (input : Input) (out err : Stream) (s : Status) (turns : ℕ) : Type 0 where
+pub record Finishes (budget : ℕ) (source : List ℕ) (input : Input) (out err : Stream) (s : Status) (turns : ℕ) : Type 0 where
   pub numbers : List ℤ
   pub given : IsGiven source input numbers
   pub done : Yield
-  pub runs : Runs source numbers done
+  pub runs : Runs budget source numbers done
   pub takes : turns ≡ done.turns
-  pub ends : Ends done out err s
+  pub ends : Ends budget done out err s
 
 -- ---- answers
 
@@ -115,8 +115,8 @@ Stops err s turns = (turns ≡ 0) × Says err (message s)
 abbrev pub Refuses : Stream → Status → Status → ℕ → Type 0
 Refuses err s answered turns = ((answered ≡ s) × Stops err s turns) ⊎ ((answered ≡ status.NoMemory) × Stops err status.NoMemory turns)
 
-abbrev pub Ended : Yield → (out err : Stream) → Status → ℕ → Type 0
-Ended y out err answered turns = ((turns ≡ y.turns) × Ends y out err answered) ⊎ ((answered ≡ status.NoMemory) × Stops err status.NoMemory turns)
+abbrev pub Ended : ℕ → Yield → (out err : Stream) → Status → ℕ → Type 0
+Ended budget y out err answered turns = ((turns ≡ y.turns) × Ends budget y out err answered) ⊎ ((answered ≡ status.NoMemory) × Stops err status.NoMemory turns)
 
 -- the input is as before, or the source asks for it
 abbrev pub MayRead : List ℕ → Input → Type 0
@@ -128,20 +128,20 @@ IsTooLong source input =
     ((most_source_bytes < length source) × input.untouched) ⊎ (NeedsInput source × Finds input (Err fault.TooLong))
 
 -- How a command ends that has read these bytes of a file: each status with its cause.
-abbrev pub Answers : List ℕ → Input → (out err : Stream) → Status → ℕ → Type 0
-Answers source input out err status.TooLong turns = IsTooLong source input × Stops err status.TooLong turns
-Answers source input out err (status.Refused refusal) turns =
+abbrev pub Answers : ℕ → List ℕ → Input → (out err : Stream) → Status → ℕ → Type 0
+Answers budget source input out err status.TooLong turns = IsTooLong source input × Stops err status.TooLong turns
+Answers budget source input out err (status.Refused refusal) turns =
     (length source ≤ most_source_bytes) × IsRefused source refusal × input.untouched × Stops err (status.Refused refusal) turns
-Answers source input out err (status.Unbuilt at) turns = IsUnbuilt source at × input.untouched × Stops err (status.Unbuilt at) turns
-Answers source input out err (status.BadInput at) turns = NeedsInput source × Finds input (Err (fault.BadInput at)) × Stops err (status.BadInput at) turns
-Answers source input out err status.ReadFault turns = NeedsInput source × input.fault × Stops err status.ReadFault turns
-Answers source input out err status.NoMemory turns = MayRead source input × Stops err status.NoMemory turns
-Answers source input out err status.Usage turns = ⊥
-Answers source input out err status.Stuck turns = ⊥
-Answers source input out err status.Done turns = Finishes source input out err status.Done turns
-Answers source input out err (status.Trap trap) turns = Finishes source input out err (status.Trap trap) turns
-Answers source input out err status.Spent turns = Finishes source input out err status.Spent turns
-Answers source input out err status.WriteFault turns = Finishes source input out err status.WriteFault turns
+Answers budget source input out err (status.Unbuilt at) turns = IsUnbuilt source at × input.untouched × Stops err (status.Unbuilt at) turns
+Answers budget source input out err (status.BadInput at) turns = NeedsInput source × Finds input (Err (fault.BadInput at)) × Stops err (status.BadInput at) turns
+Answers budget source input out err status.ReadFault turns = NeedsInput source × input.fault × Stops err status.ReadFault turns
+Answers budget source input out err status.NoMemory turns = MayRead source input × Stops err status.NoMemory turns
+Answers budget source input out err status.Usage turns = ⊥
+Answers budget source input out err status.Stuck turns = ⊥
+Answers budget source input out err status.Done turns = Finishes budget source input out err status.Done turns
+Answers budget source input out err (status.Trap trap) turns = Finishes budget source input out err (status.Trap trap) turns
+Answers budget source input out err status.Spent turns = Finishes budget source input out err status.Spent turns
+Answers budget source input out err status.WriteFault turns = Finishes budget source input out err status.WriteFault turns
 
 -- A shelf in a command: its files, where they are told, whether it was sure of each that is there, and that reading one
 -- failed.
@@ -168,16 +168,16 @@ abbrev pub FailsToRead : Shelf → List ℕ → Type 0
 FailsToRead shelf name = shelf.fault × (IsTrue shelf.sure → IsThere shelf.files name → ⊥)
 
 -- it ends by the bytes that were read of the file
-abbrev pub AnswersFile : Shelf → List ℕ → Input → (out err : Stream) → Status → ℕ → Type 0
-AnswersFile shelf name input out err s turns = (source : List ℕ) × IsRead shelf.files name source × Answers source input out err s turns
+abbrev pub AnswersFile : ℕ → Shelf → List ℕ → Input → (out err : Stream) → Status → ℕ → Type 0
+AnswersFile budget shelf name input out err s turns = (source : List ℕ) × IsRead shelf.files name source × Answers budget source input out err s turns
 
 -- How a command ends that names a file: without memory or the file, or by the bytes that were read.
-abbrev pub Answered : Shelf → List ℕ → Input → (out err : Stream) → Status → ℕ → Type 0
-Answered shelf name input out err status.NoMemory turns =
-    (input.untouched × Stops err status.NoMemory turns) ⊎ AnswersFile shelf name input out err status.NoMemory turns
-Answered shelf name input out err status.ReadFault turns =
-    (FailsToRead shelf name × input.untouched × Stops err status.ReadFault turns) ⊎ AnswersFile shelf name input out err status.ReadFault turns
-Answered shelf name input out err s turns = AnswersFile shelf name input out err s turns
+abbrev pub Answered : ℕ → Shelf → List ℕ → Input → (out err : Stream) → Status → ℕ → Type 0
+Answered budget shelf name input out err status.NoMemory turns =
+    (input.untouched × Stops err status.NoMemory turns) ⊎ AnswersFile budget shelf name input out err status.NoMemory turns
+Answered budget shelf name input out err status.ReadFault turns =
+    (FailsToRead shelf name × input.untouched × Stops err status.ReadFault turns) ⊎ AnswersFile budget shelf name input out err status.ReadFault turns
+Answered budget shelf name input out err s turns = AnswersFile budget shelf name input out err s turns
 
 -- a status with which nothing was written to the output
 abbrev pub LeavesOutput : Status → Type 0
@@ -199,5 +199,5 @@ IsExact _ = Unit {0}
 
 -- a command that names this file, which is told, would rightly end so with this input, as far as its turns and its status
 -- go
-abbrev pub IsCause : Files → List ℕ → List ℕ → Status → ℕ → Type 0
-IsCause files name left s turns = Answered (told_shelf files) name (told_input left) any_stream any_stream s turns
+abbrev pub IsCause : ℕ → Files → List ℕ → List ℕ → Status → ℕ → Type 0
+IsCause budget files name left s turns = Answered budget (told_shelf files) name (told_input left) any_stream any_stream s turns

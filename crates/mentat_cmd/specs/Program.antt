@@ -11,7 +11,6 @@ use Rattle.mpl_ast.specs.declared.token.Token.{Token}
 use Rattle.mpl_ast.specs.declared.token.TokenKind.{TokenKind}
 use Rattle.mpl_ast.specs.declared.token.TokenKind.TheVariants as kind
 use Rattle.mpl_mean.specs.Accepted.{IsAccepted}
-use Rattle.mpl_mean.specs.Limits.{usual_budget}
 use Rattle.mpl_mean.specs.Meaning.DirectRun.{direct_run}
 use Rattle.mpl_mean.specs.Text.Lexemes.{BadByte, LexicalFault, OpenComment, WideNumber, tokens_of}
 use Rattle.mpl_mean.specs.Text.ParseFaults.{IsSyntaxFault, IsTooDeep}
@@ -102,8 +101,8 @@ pub record NeedsInput (source : List ℕ) : Type 0 where
   pub source_is : IsBuilt source program
   pub asks : asks_for_input source ≡ true
 
--- this is what the program of the source does with these numbers, within the usual budget
-pub record Runs (source : List ℕ) (input : List ℤ) (y : Yield) : Type 0 where
+-- this is what the program of the source does with these numbers, within the budget
+pub record Runs (budget : ℕ) (source : List ℕ) (input : List ℤ) (y : Yield) : Type 0 where
   pub program : Program
   pub source_is : IsBuilt source program
-  pub yield : y ≡ direct_run program input usual_budget
+  pub yield : y ≡ direct_run program input budget

@@ -1,5 +1,5 @@
-ghost use Rattle.std.specs.Prelude.{◌≡◌, ◌↔◌, ◌+◌, None, IfSome};
-ghost use Rattle.mpl_mean.specs.Limits.{usual_budget};
+ghost use Rattle.std.specs.Prelude.{◌≡◌, ◌↔◌, ◌+◌, ◌≤◌, ℕ, None, IfSome};
+ghost use Rattle.mpl_mean.specs.Limits.{greatest_budget};
 ghost use Rattle.mpl_value.specs.declared.body.BodyEnd.TheVariants.{Spent, Waits};
 ghost use Rattle.mpl_value.specs.declared.body.Yield.{Yield};
 ghost use Rattle.mentat_cmd.specs.Answer.{Answered, Answers, Ended, Ends, IsOfRun, IsSaid, IsStatusOf, IsWritten, LeavesOutput, Refuses, Says, Stops, shelf_of, stream};
@@ -7,13 +7,13 @@ ghost use Rattle.mentat_cmd.specs.Input.{input_of};
 ghost use Rattle.mentat_cmd.specs.Internal.Ran.{fault_status};
 ghost use Rattle.mentat_cmd.specs.Message as spec;
 ghost use Rattle.mentat_cmd.specs.Message.{text_of};
-ghost use Rattle.mentat_cmd.specs.Words.{file_of};
+ghost use Rattle.mentat_cmd.specs.Words.{command_of};
 
 use crate::message::{Message, message_of};
 use crate::output::{say, write_all};
 use crate::run::{Rejection, run};
 use crate::status::{Ending, Status};
-use crate::words;
+use crate::words::command_of;
 use mentat_input::InputFault;
 use mentat_io::{Failed, Shelf, ShelfFault, Sink, Source, Text};
 use mpl_value::{BodyEnd, NoMemory, Yield};
@@ -22,9 +22,9 @@ use std::alloc::Global;
 /// The most bytes that a source may have.
 const SOURCE_LIMIT: u32 = 1_048_576;
 
-/// Does what the words say: `run FILE` runs the program in FILE and writes what it prints to `out`. The numbers that it
-/// takes by `input()` are those of `input`, which is read before the run. How that ended is said on `err`, as far as it
-/// takes it.
+/// Does what the words say: `run FILE` runs the program in FILE and writes what it prints to `out`, within as many turns
+/// as `--budget` behind the file says, or 1,000,000. The numbers that it takes by `input()` are those of `input`, which is
+/// read before the run. How that ended is said on `err`, as far as it takes it.
 pub fn quiet_command<F: Shelf, S: Source, K: Sink, E: Sink>(
     alloc: Global,
     words: &[Text],
@@ -34,15 +34,15 @@ pub fn quiet_command<F: Shelf, S: Source, K: Sink, E: Sink>(
     err: &mut E,
 ) -> Ending
     // The words are not of the form of a command, and then no file is asked for.
-    ensures usage { (result.status ≡ Status.Usage) ↔ (file_of words.now ≡ None) }
-    ensures unread { file_of words.now ≡ None → shelf.new ≡ shelf.old }
-    ensures idle { file_of words.now ≡ None → Stops (stream (E.written err.old) (E.written err.new) (E.faults err.old) (E.faults err.new)) Status.Usage result.turns }
+    ensures usage { (result.status ≡ Status.Usage) ↔ (command_of words.now ≡ None) }
+    ensures unread { command_of words.now ≡ None → shelf.new ≡ shelf.old }
+    ensures idle { command_of words.now ≡ None → Stops (stream (E.written err.old) (E.written err.new) (E.faults err.old) (E.faults err.new)) Status.Usage result.turns }
 
-    ensures unasked { file_of words.now ≡ None → input.new ≡ input.old }
+    ensures unasked { command_of words.now ≡ None → input.new ≡ input.old }
 
     // Each other answer follows from the bytes that were read, of the file and of the input, and so does what was written.
-    ensures answer { IfSome (file_of words.now) (λ name. Answered
-        (shelf_of (F.files shelf.old) (F.sure shelf.old) (F.faults shelf.old) (F.faults shelf.new)) name
+    ensures answer { IfSome (command_of words.now) (λ c. Answered c.budget
+        (shelf_of (F.files shelf.old) (F.sure shelf.old) (F.faults shelf.old) (F.faults shelf.new)) c.file
         (input_of (S.left input.old) (S.left input.new) (S.faults input.old) (S.faults input.new) (input.new ≡ input.old))
         (stream (K.written out.old) (K.written out.new) (K.faults out.old) (K.faults out.new))
         (stream (E.written err.old) (E.written err.new) (E.faults err.old) (E.faults err.new))
@@ -51,11 +51,11 @@ pub fn quiet_command<F: Shelf, S: Source, K: Sink, E: Sink>(
     ensures unwritten { LeavesOutput result.status → out.new ≡ out.old }
     ensures silent { result.status ≡ Status.Done → err.new ≡ err.old }
 {
-    let Some(name) = words::file_of(words) else {
+    let Some(command) = command_of(words) else {
         return stop(&Message::Fixed("mentat: usage\n"), Status::Usage, err);
     };
-    match shelf.read_file(alloc, name, SOURCE_LIMIT + 1) {
-        Ok(bytes) => answer(alloc, bytes.as_slice(), input, out, err),
+    match shelf.read_file(alloc, command.file, SOURCE_LIMIT + 1) {
+        Ok(bytes) => answer(alloc, bytes.as_slice(), command.budget, input, out, err),
         Err(ShelfFault::Failed) => stop(
             &Message::Fixed("mentat: read fault\n"),
             Status::ReadFault,
@@ -104,15 +104,17 @@ fn refuse<E: Sink>(alloc: Global, status: Status, err: &mut E) -> Ending
     }
 }
 
-// Runs the program that the bytes are the source of.
+// Runs the program that the bytes are the source of, within the budget.
 fn answer<S: Source, K: Sink, E: Sink>(
     alloc: Global,
     bytes: &[u8],
+    budget: u64,
     input: &mut S,
     out: &mut K,
     err: &mut E,
 ) -> Ending
-    ensures cause { Answers bytes.now
+    requires { budget ≤ greatest_budget }
+    ensures cause { Answers budget bytes.now
         (input_of (S.left input.old) (S.left input.new) (S.faults input.old) (S.faults input.new) (input.new ≡ input.old))
         (stream (K.written out.old) (K.written out.new) (K.faults out.old) (K.faults out.new))
         (stream (E.written err.old) (E.written err.new) (E.faults err.old) (E.faults err.new))
@@ -123,7 +125,7 @@ fn answer<S: Source, K: Sink, E: Sink>(
     if bytes.len() > SOURCE_LIMIT as usize {
         return stop(&Message::Fixed("mentat: too long\n"), Status::TooLong, err);
     }
-    match run(alloc, bytes, input) {
+    match run(alloc, bytes, budget, input) {
         Ok(done) => finish(alloc, &done, out, err),
         Err(Rejection::Refused(refusal)) => refuse(alloc, Status::Refused(refusal), err),
         Err(Rejection::Unbuilt(at)) => refuse(alloc, Status::Unbuilt(u64::from(at)), err),
@@ -146,8 +148,7 @@ fn status_of_fault(fault: InputFault) -> Status
 
 // Writes what a run printed, if its turns didn't run out, and says how it ended.
 fn finish<K: Sink, E: Sink>(alloc: Global, done: &Yield, out: &mut K, err: &mut E) -> Ending
-    requires spent { done.now.end ≡ Spent → done.now.turns ≡ usual_budget + 1 }
-    ensures ends { Ended done.now
+    ensures ends { (budget : ℕ) → (done.now.end ≡ Spent → done.now.turns ≡ budget + 1) → Ended budget done.now
         (stream (K.written out.old) (K.written out.new) (K.faults out.old) (K.faults out.new))
         (stream (E.written err.old) (E.written err.new) (E.faults err.old) (E.faults err.new))
         result.status result.turns }
@@ -176,7 +177,7 @@ fn report<K: Sink, E: Sink>(
 ) -> Ending
     requires status { IsStatusOf done.now.end status }
     requires run { IsOfRun status }
-    ensures ends { Ended done.now
+    ensures ends { (budget : ℕ) → Ended budget done.now
         (stream (K.written out.old) (K.written out.new) (K.faults out.old) (K.faults out.new))
         (stream (E.written err.old) (E.written err.new) (E.faults err.old) (E.faults err.new))
         result.status result.turns }
@@ -202,7 +203,7 @@ fn written<K: Sink, E: Sink>(
 ) -> Status
     requires message { text_of message.now ≡ spec.message status }
     requires run { IsOfRun status }
-    ensures ends { (y : Yield) → IsStatusOf y.end status → y.lines ≡ lines.now → Ends y
+    ensures ends { (budget : ℕ) (y : Yield) → IsStatusOf y.end status → y.lines ≡ lines.now → Ends budget y
         (stream (K.written out.old) (K.written out.new) (K.faults out.old) (K.faults out.new))
         (stream (E.written err.old) (E.written err.new) (E.faults err.old) (E.faults err.new))
         result }

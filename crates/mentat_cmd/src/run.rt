@@ -1,6 +1,6 @@
 ghost use Rattle.std.specs.Prelude.{◌≡◌, ◌+◌, ◌≤◌, length, true, List, ℕ, Ok, Err, IfOk, IfErr};
 ghost use Rattle.mpl_mean.specs.Accepted.{IsAccepted};
-ghost use Rattle.mpl_mean.specs.Limits.{most_source_bytes, most_tokens, usual_budget};
+ghost use Rattle.mpl_mean.specs.Limits.{greatest_budget, most_source_bytes, most_tokens};
 ghost use Rattle.mpl_mean.specs.Meaning.DirectRun.{direct_run, main_start};
 ghost use Rattle.mpl_mean.specs.Text.Lexemes.{tokens_of};
 ghost use Rattle.mpl_mean.specs.Text.ProgramText.{spells};
@@ -24,9 +24,6 @@ use mpl_types::{TypeFault, check};
 use mpl_value::{BodyStart, NoMemory, Replies, Words, Yield};
 use mpl_walk::walk;
 use std::alloc::Global;
-
-/// The turns that a run may take.
-pub const BUDGET: u64 = 1_000_000;
 
 /// Why a source didn't run.
 #[derive(Clone, Copy, Debug, PartialEq, Eq)]
@@ -67,17 +64,23 @@ struct Accepted {
     asks: bool,
 }
 
-/// What the program of a source does.
-pub fn run<S: Source>(alloc: Global, source: &[u8], input: &mut S) -> Result<Yield, Rejection>
-    requires { length source.now ≤ most_source_bytes }
-    ensures ran { Ran source.now (input_of (S.left input.old) (S.left input.new) (S.faults input.old) (S.faults input.new) (input.new ≡ input.old)) result }
-    ensures spent { IfOk result (λ y. y.end ≡ Spent → y.turns ≡ usual_budget + 1) }
+/// What the program of a source does within the budget.
+pub fn run<S: Source>(
+    alloc: Global,
+    source: &[u8],
+    budget: u64,
+    input: &mut S,
+) -> Result<Yield, Rejection>
+    requires source { length source.now ≤ most_source_bytes }
+    requires budget { budget ≤ greatest_budget }
+    ensures ran { Ran budget source.now (input_of (S.left input.old) (S.left input.new) (S.faults input.old) (S.faults input.new) (input.new ≡ input.old)) result }
+    ensures spent { IfOk result (λ y. y.end ≡ Spent → y.turns ≡ budget + 1) }
     ensures never { IfOk result (λ y. y.end ≡ Waits → ⊥) }
 {
     let accepted = accept(alloc, source)?;
     let numbers = numbers_for(alloc, accepted.asks, input)?;
     only_replies_are_awaited();
-    let done = walk_main(alloc, &accepted.typed, numbers)?;
+    let done = walk_main(alloc, &accepted.typed, numbers, budget)?;
     Ok(done)
 }
 
@@ -155,13 +158,14 @@ fn numbers_for<S: Source>(alloc: Global, asks: bool, input: &mut S) -> Result<Wo
 }
 
 // What `main` does with these numbers, and no reply to any call.
-fn walk_main(alloc: Global, typed: &Typed, numbers: Words) -> Result<Yield, NoMemory>
-    ensures meaning { IfOk result (λ y. y ≡ direct_run typed.now numbers usual_budget) }
-    ensures spent { IfOk result (λ y. y.end ≡ Spent → y.turns ≡ usual_budget + 1) }
+fn walk_main(alloc: Global, typed: &Typed, numbers: Words, budget: u64) -> Result<Yield, NoMemory>
+    requires { budget ≤ greatest_budget }
+    ensures meaning { IfOk result (λ y. y ≡ direct_run typed.now numbers budget) }
+    ensures spent { IfOk result (λ y. y.end ≡ Spent → y.turns ≡ budget + 1) }
 {
     let start = start_of_main(alloc, numbers);
     let replies = Replies::new(alloc);
-    let done = walk(alloc, typed, &start, &replies, BUDGET)?;
+    let done = walk(alloc, typed, &start, &replies, budget)?;
     Ok(done)
 }
 

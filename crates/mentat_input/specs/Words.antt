@@ -40,6 +40,11 @@ abbrev pub magnitude_of : List ℕ → Option ℕ
 magnitude_of [] = None
 magnitude_of (b ∷ bytes) = if list_all is_digit (b ∷ bytes) then Some (value_of (b ∷ bytes)) else None
 
+-- the number, where it is at most so great
+abbrev pub at_most : ℕ → Option ℕ → Option ℕ
+at_most most None = None
+at_most most (Some n) = if nat_le n most then Some n else None
+
 -- the number, where a word of 64 bits holds it
 abbrev pub positive : Option ℕ → Option ℤ
 positive None = None

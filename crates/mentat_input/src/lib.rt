@@ -10,4 +10,5 @@ mod worked;
 pub use fault::InputFault;
 pub use laws::inputs_have_one_answer;
 pub use reading::read_numbers;
+pub use words::number_within;
 pub use worked::inputs_have_their_numbers;

@@ -2,7 +2,7 @@
 ghost use Rattle.std.specs.Prelude.{◌≡◌, [], ◌∷◌, ◌++◌, not, true, is_some, OnOk};
 ghost use Rattle.std.specs.List.{prefix_len, list_all};
 ghost use Rattle.mentat_input.specs.Internal.Taken.{HasNumbers, unsigned_of};
-ghost use Rattle.mentat_input.specs.Words.{is_blank, is_digit, negative, number_of, positive};
+ghost use Rattle.mentat_input.specs.Words.{at_most, is_blank, is_digit, negative, number_of, positive};
 ghost use Rattle.mentat_input.specs.Words as spec;
 
 use crate::fault::InputFault;
@@ -72,6 +72,17 @@ fn negative(digits: &[u8]) -> Option<i64>
         return None;
     }
     0i64.checked_sub_unsigned(unsigned_of(digits)?)
+}
+
+/// The number that one or more digits spell, where it is at most `most`.
+pub fn number_within(most: u64, word: &[u8]) -> Option<u64>
+    ensures { result ≡ at_most most (spec.magnitude_of word.now) }
+{
+    if !are_digits(word) {
+        return None;
+    }
+    let number = unsigned_of(word)?;
+    if number <= most { Some(number) } else { None }
 }
 
 /// One or more digits.

@@ -38,18 +38,18 @@ Giving false input (Err e) = ⊥
 
 -- ---- runs
 
-pub record HasRun (source : List ℕ) (input : Input) (y : Yield) : Type 0 where
+pub record HasRun (budget : ℕ) (source : List ℕ) (input : Input) (y : Yield) : Type 0 where
   pub numbers : List ℤ
   pub given : IsGiven source input numbers
-  pub runs : Runs source numbers y
+  pub runs : Runs budget source numbers y
 
 -- what is said of a source and its input: its run, or why there is none
-abbrev pub Ran : List ℕ → Input → Result Yield Rejection → Type 0
-Ran source input (Ok y) = HasRun source input y
-Ran source input (Err (rejection.Refused refusal)) = IsRefused source refusal × input.untouched
-Ran source input (Err (rejection.Unbuilt at)) = IsUnbuilt source at × input.untouched
-Ran source input (Err (rejection.Input e)) = NeedsInput source × Reading input (Err e)
-Ran source input (Err rejection.NoMemory) = MayRead source input
+abbrev pub Ran : ℕ → List ℕ → Input → Result Yield Rejection → Type 0
+Ran budget source input (Ok y) = HasRun budget source input y
+Ran budget source input (Err (rejection.Refused refusal)) = IsRefused source refusal × input.untouched
+Ran budget source input (Err (rejection.Unbuilt at)) = IsUnbuilt source at × input.untouched
+Ran budget source input (Err (rejection.Input e)) = NeedsInput source × Reading input (Err e)
+Ran budget source input (Err rejection.NoMemory) = MayRead source input
 
 -- the status of a fault of the input
 abbrev pub fault_status : InputFault → Status

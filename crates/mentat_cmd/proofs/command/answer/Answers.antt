@@ -12,7 +12,7 @@ returns-in-Ok-clause-cause g c =
     let before = c.args.input.now in
     let after = c.run.new.input in
     let input = input_of (g.S.Source.left before) (g.S.Source.left after) (g.S.Source.faults before) (g.S.Source.faults after) (after ≡ before) in
-    answers _ input c.in-Ok.done _ _ _ _ c.in-Ok.ensures.ran c.in-Ok.ensures.never c.finish.ensures.ends
+    answers c.args.budget _ input c.in-Ok.done _ _ _ _ c.in-Ok.ensures.ran c.in-Ok.ensures.never (c.finish.ensures.ends c.args.budget c.in-Ok.ensures.spent)
 
 pub returns-in-Err-Input-clause-cause : goal.returns-in-Err-Input-clause-cause
 returns-in-Err-Input-clause-cause g c =
@@ -24,7 +24,7 @@ returns-in-Err-Input-clause-cause g c =
     let fault = c.in-Err-Input.fault in
     let answered = c.refuse-in-Err-Input.result.status in
     let turns = c.refuse-in-Err-Input.result.turns in
-    let ran = subst (λ (e : Rejection). Ran c.args.bytes.now input (Err e)) c.in-Err-Input.field-0-is c.in-Err-Input.ensures.ran in
-    refused_so c.args.bytes.now input out err (fault_status fault) answered turns (inr ran.0)
-    (λ stops. faulty_input c.args.bytes.now input out err fault turns ran stops)
+    let ran = subst (λ (e : Rejection). Ran c.args.budget c.args.bytes.now input (Err e)) c.in-Err-Input.field-0-is c.in-Err-Input.ensures.ran in
+    refused_so c.args.budget c.args.bytes.now input out err (fault_status fault) answered turns (inr ran.0)
+    (λ stops. faulty_input c.args.budget c.args.bytes.now input out err fault turns ran stops)
     (subst (λ (s : Status). Refuses err s answered turns) c.status_of_fault.ensures c.refuse-in-Err-Input.ensures)

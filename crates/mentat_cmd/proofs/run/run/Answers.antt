@@ -20,5 +20,5 @@ returns-clause-ran g c =
 
 pub returns-clause-never : goal.returns-clause-never
 returns-clause-never g c =
-    never_waits c.args.source.now c.in_ok-accepted.accepted.typed c.in_ok-numbers.numbers c.in_ok-done.done
+    never_waits c.args.budget c.args.source.now c.in_ok-accepted.accepted.typed c.in_ok-numbers.numbers c.in_ok-done.done
     c.in_ok-accepted.ensures.built c.in_ok-done.ensures.meaning c.only_replies_are_awaited.ensures.direct
