@@ -36,6 +36,7 @@ fn consumers_are_due_in_order(rt: HostRuntime) -> Result<(), Fail> {
     assert_eq!(rt; futures.seen(4), Some(Seen::Words(1)));
     assert_eq!(rt; futures.word(4, 0), 7);
     wait_all(&mut futures, 4, after.as_slice())?;
+    assert_eq!(rt; futures.due_len(), 4);
     for consumer in [FIRST, Consumer::Result(2), Consumer::Result(3), SECOND] {
         let due = Some(Due { consumer, from: 4 });
         assert_eq!(rt; futures.due_at(0), due);

@@ -122,6 +122,13 @@ impl Futures {
         self.future(actor).unwrap().fate.state()
     }
 
+    /// How many consumers are due.
+    pub fn due_len(&self) -> usize
+        ensures { result ≡ length self.now.due }
+    {
+        self.due.len()
+    }
+
     /// The due consumer at a place, the oldest being at 0.
     pub fn due_at(&self, at: usize) -> Option<Due>
         ensures { result ≡ slice_get self.now.due at }
