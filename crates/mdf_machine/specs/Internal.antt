@@ -1,0 +1,14 @@
+pub mod Children
+pub mod Happened
+pub mod Rows
+pub mod Tables
+pub mod Held
+pub mod Opening
+pub mod Starting
+pub mod Settling
+pub mod Quitting
+pub mod Sending
+pub mod Forwarding
+pub mod Ending
+pub mod Matching
+pub mod Bringing

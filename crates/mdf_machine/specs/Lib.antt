@@ -1,0 +1,12 @@
+pub mod Courses
+pub mod Frames
+pub mod FramesOut
+pub mod Answers
+pub mod LookUps
+pub mod MachineEnds
+pub mod MakingCalls
+pub mod RightCourses
+pub mod Giving
+pub mod Ending
+pub mod Matching
+pub mod Internal
