@@ -1,9 +1,9 @@
 -- What a path carries to a place comes from one place.
-use Rattle.std.proofs.Common.{◌≡◌, ◌+◌, ℕ, Bool, true, false, [], ◌∷◌, ◌++◌, ◌⊎◌, inl, inr, ◌||◌, if◌then◌else◌, refl, ap, sym, true≢false, ◌∙◌, arith}
+use Rattle.std.proofs.Common.{◌≡◌, ◌+◌, ℕ, Bool, true, false, [], ◌∷◌, ◌++◌, if◌then◌else◌, refl, ap, sym, true≢false, ◌∙◌, arith}
 use Rattle.std.specs.Prelude.{nat_eq}
 use Rattle.std.proofs.lemmas.Bool.{eq-eqb, eqb-true, ne_eqb}
 use Rattle.mpl_mean.specs.Pending.Looseness.{Event, Loosens, Settles, Copies, Forces, Loose, Path, behind_event, behind_path, where_one_is}
-use Rattle.mpl_depend.specs.Internal.Carried.{AreIn, Places, event_on, joint, path_on}
+use Rattle.mpl_depend.specs.Internal.Carried.{AreIn, Places, event_on, path_on}
 
 pub carried_both : (p q : Path) (places : Places) → path_on (p ++ q) places ≡ path_on q (path_on p places)
 carried_both [] q places = refl
@@ -78,37 +78,3 @@ event_shown (Forces node n) places loose shows = set_shown n false false places 
 pub path_shown : (path : Path) (places : Places) (loose : Loose) → Shows places loose → Shows (path_on path places) (behind_path path loose)
 path_shown [] places loose shows = shows
 path_shown (event ∷ path) places loose shows = path_shown path (event_on event places) (behind_event event loose) (event_shown event places loose shows)
-
--- ---- sets
-
-pub joint_cases : (one other : Places) (place : ℕ) → joint one other place ≡ true → (one place ≡ true) ⊎ (other place ≡ true)
-joint_cases one other place h = by_one (one place) refl h where
-  by_one : (b : Bool) → one place ≡ b → (b || other place) ≡ true → (one place ≡ true) ⊎ (other place ≡ true)
-  by_one true e h = inl e
-  by_one false e h = inr h
-
-pub in_left : (one other : Places) → AreIn one (joint one other)
-in_left one other = λ place h. ap (λ b. b || other place) h
-
-pub in_right : (one other : Places) → AreIn other (joint one other)
-in_right one other = λ place h. by_one (one place) h where
-  by_one : (b : Bool) {c : Bool} → c ≡ true → (b || c) ≡ true
-  by_one true e = refl
-  by_one false e = e
-
--- of both is what is of the one or of the other
-pub joint_in : (one other many : Places) → AreIn one many → AreIn other many → AreIn (joint one other) many
-joint_in one other many left right = λ place h. elim (joint_cases one other place h) [ inl k ↦ left place k | inr k ↦ right place k ]
-
-pub joint_more : (one other one2 other2 : Places) → AreIn one one2 → AreIn other other2 → AreIn (joint one other) (joint one2 other2)
-joint_more one other one2 other2 left right =
-    joint_in one other (joint one2 other2) (λ place h. in_left one2 other2 place (left place h)) (λ place h. in_right one2 other2 place (right place h))
-
--- an event carries of both what it carries of the one or of the other
-pub event_joint : (event : Event) (one other to to2 : Places) → AreIn (event_on event one) to → AreIn (event_on event other) to2 → AreIn (event_on event (joint one other)) (joint to to2)
-event_joint event one other to to2 left right = λ n h. from_source n (event_source event (joint one other) n h) where
-  from_source : (n : ℕ) → Source (event_on event) (joint one other) n → joint to to2 n ≡ true
-  from_source n from = elim (joint_cases one other from.0 from.1) [
-    | inl k ↦ in_left to to2 n (left n (from.2 one k))
-    | inr k ↦ in_right to to2 n (right n (from.2 other k))
-  ]

@@ -11,14 +11,11 @@ use Rattle.mpl_mean.specs.Meaning.BodyMeaning.{of_object}
 use Rattle.mpl_mean.specs.Meaning.Layout.{Class, Member, Part, classes_from, formals_of, is_regular, members_from, parts_of, state_of}
 use Rattle.mpl_mean.specs.Pending.BodyWays.{stmts_ways}
 use Rattle.mpl_mean.specs.Pending.MayBePending.{AnyMarked, all_ways, function_ways, functions_of, member_ways}
-use Rattle.mpl_mean.specs.Pending.Paths.{Marked, Ways}
+use Rattle.mpl_mean.specs.Pending.Paths.{Ways}
 use Rattle.mpl_mean.specs.Plain.Scopes.{formal_shape, member_env}
 use Rattle.mpl_mean.specs.Plain.Stmt.{stmts_from}
 use Rattle.mpl_depend.specs.Internal.Bodies.{Adds, body_ways, class_row, function_row, item_row, state_in}
-use Rattle.mpl_depend.specs.Internal.Heads.{AddsEnds, Heads, NoHeads}
-use Rattle.mpl_depend.specs.Internal.Walking.{Ready, Walked, Within}
 use Rattle.mpl_depend.specs.Marks.{AreMarks}
-use Rattle.mpl_depend.proofs.BodyMarks.{IsStart, body_marks_complete, body_marks_sound}
 use Rattle.mpl_depend.proofs.Members.{stmts_same}
 use Rattle.mpl_depend.proofs.Walks.{either_way}
 
@@ -47,28 +44,6 @@ adds_both a b marks more most one two = record {
   sound = λ node h. either_way (two.sound node h) (λ k. either_way (one.sound node k) (λ l. inl l) (λ l. inr (any_front a b node l))) (λ k. inr (any_behind a b node k));
   complete = λ node h. either_way (any_of a b node h) (λ k. two.kept node (one.complete node k)) (λ k. two.complete node k);
 }
-
--- what a walk from the start of a body stands on
-pub ready_begins : (ways : Ways) (ends : List ℕ) (heads : Heads) (flags : List Bool) → Within (length flags) ways → AddsEnds ways [] ends → NoHeads (length ends) (length flags) heads → Ready ways ends 0 heads flags
-ready_begins ways ends heads flags within adds none = record {
-  within = within;
-  numbered = adds.ends;
-  few = (let sized = adds.sized in omega arith);
-  as_many = none.as_many;
-  as_long = none.as_long;
-}
-
--- what a walk from the start of a body marks
-pub walked_adds : (ways : Ways) (behind : ℕ) (flags after : List Bool) (heads wide : Heads) (number places : ℕ) (marks more : List ℕ) → IsStart flags → NoHeads number places heads → Walked ways 0 behind flags after heads wide marks more
-    → Adds (ways ∷ []) marks more
-walked_adds ways behind flags after heads wide number places marks more start none walked = record {
-  kept = walked.marks_kept;
-  sound = λ node h. either_way (body_marks_sound ways behind flags after heads wide marks more node start walked h) (λ k. inl k) (λ k. inr (inl k));
-  complete = λ node h. body_marks_complete ways behind flags after heads wide number places marks more node start none walked (only_one node h);
-} where
-  only_one : (node : ℕ) → AnyMarked (ways ∷ []) node → Marked ways node
-  only_one node (inl h) = h
-  only_one node (inr h) = absurd h
 
 -- ---- one row after another
 

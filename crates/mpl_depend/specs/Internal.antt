@@ -1,14 +1,13 @@
 -- What is said of the ways through a body, and of the walk along them.
+pub mod Bodies
 pub mod Carried
-pub mod Flags
-pub mod Heads
-pub mod Sets
-pub mod Words
-pub mod Settled
-pub mod SeenWays
+pub mod Certain
+pub mod Ranks
+pub mod Reached
 pub mod Regular
-pub mod Sights
+pub mod Saves
 pub mod SeenClass
 pub mod SeenScope
-pub mod Bodies
+pub mod SeenWays
+pub mod Sights
 pub mod Walking

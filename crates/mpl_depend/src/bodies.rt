@@ -1,21 +1,14 @@
 //! The uses that are marked in the bodies of a program.
 
-ghost use Rattle.std.specs.Prelude.{◌≡◌, ◌<◌, [], ◌∷◌, ◌++◌, flat_map, length, map, IfOk, OnOk};
+ghost use Rattle.std.specs.Prelude.{◌≡◌, [], ◌∷◌, flat_map, map, IfOk, OnOk};
 ghost use Rattle.mpl_mean.specs.Plain.Scopes.{formal_shape};
 ghost use Rattle.mpl_depend.specs.Internal.Bodies.{Adds, body_ways, class_row, function_row, item_row, state_in};
-ghost use Rattle.mpl_depend.specs.Internal.Heads.{AddsEnds, NoHeads};
 ghost use Rattle.mpl_depend.specs.Internal.SeenClass.{items_seen};
-ghost use Rattle.mpl_depend.specs.Internal.SeenWays.{ways_seen};
-ghost use Rattle.mpl_depend.specs.Internal.Walking.{Within};
 
+use crate::finding::mark_ways;
 use crate::known::Known;
-use crate::nesting::{ends_of, no_heads};
 use crate::scope::Scope;
 use crate::statements::statements;
-use crate::variable_set::VariableSet;
-use crate::walking::walk;
-use crate::ways::Ways;
-use crate::width::variables_of;
 use mpl_ast::class::{Formal, Item};
 use mpl_ast::program::Declaration;
 use mpl_ast::statement::Statement;
@@ -25,45 +18,6 @@ use mpl_scope::members::formals_of;
 use mpl_scope::outline::is_regular;
 use mpl_value::NoMemory;
 use std::alloc::Global;
-
-/// The uses that are marked on some path through the ways of a body.
-fn mark_ways(alloc: Global, ways: &Ways, marks: &mut Vec<u32>) -> Result<(), NoMemory>
-    ensures { OnOk result (Adds (ways_seen ways.now ∷ []) marks.old.items marks.new.items) }
-{
-    let ends = ends_of(alloc, ways)?;
-    let variables = variables_of(ways)?;
-    let mut heads = no_heads(alloc, ends.as_slice().len(), variables)?;
-    let mut flags = VariableSet::of(alloc, variables)?;
-    mark_with(
-        alloc,
-        ways,
-        ends.as_slice(),
-        heads.as_mut_slice(),
-        &mut flags,
-        marks,
-    )
-}
-
-/// A body begins with no loose variable, and nothing has come to its loops.
-fn mark_with(
-    alloc: Global,
-    ways: &Ways,
-    ends: &[usize],
-    heads: &mut [VariableSet],
-    flags: &mut VariableSet,
-    marks: &mut Vec<u32>,
-) -> Result<(), NoMemory>
-    requires some { 0 < length flags.old }
-    requires within { Within (length flags.old) (ways_seen ways.now) }
-    requires ends { AddsEnds (ways_seen ways.now) [] ends.now }
-    requires heads { NoHeads (length ends.now) (length flags.old) heads.old }
-    ensures { OnOk result (Adds (ways_seen ways.now ∷ []) marks.old.items marks.new.items) }
-{
-    flags.clear();
-    flags.begin();
-    walk(alloc, ways, ends, 0, heads, flags, marks)?;
-    Ok(())
-}
 
 /// The formals as variables, the first the newest.
 fn locals_of<'a>(alloc: Global, formals: &'a [Formal]) -> Result<Locals<'a>, NoMemory>

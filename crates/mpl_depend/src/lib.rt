@@ -3,19 +3,22 @@
 
 mod bodies;
 mod expressions;
+mod finding;
 mod flows;
 mod known;
 mod making;
-mod nesting;
+mod merging;
 mod pend_map;
+mod ranking;
+mod saved;
 mod scope;
 mod statements;
+mod tracing;
 mod uses;
-mod variable_set;
-mod walking;
+mod values;
 mod ways;
 mod wholes;
 mod width;
-mod words;
+mod writing;
 
 pub use pend_map::{PendMap, pending};

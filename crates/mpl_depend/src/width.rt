@@ -2,17 +2,18 @@ ghost use Rattle.std.specs.Prelude.{◌≤◌, ◌<◌, map, IfOk};
 ghost use Rattle.mpl_mean.specs.Pending.Paths.{Only};
 ghost use Rattle.mpl_depend.specs.Internal.SeenWays.{all_seen, event_seen, ways_seen};
 ghost use Rattle.mpl_depend.specs.Internal.Walking.{Spans, Within};
-ghost use Rattle.mpl_depend.specs.Internal.Words.{places_for};
 
 use crate::ways::{Event, Ways};
 use mpl_value::NoMemory;
 
-/// A number such that the variables below it are all that the ways speak of.
-pub fn variables_of(ways: &Ways) -> Result<usize, NoMemory>
-    ensures { IfOk result (λ variables. Within (places_for variables) (ways_seen ways.now)) }
+/// How many places there are: one for whether a path comes, and one for each variable that the ways may speak of.
+pub fn places_of(ways: &Ways) -> Result<usize, NoMemory>
+    ensures some { IfOk result (λ places. 0 < places) }
+    ensures within { IfOk result (λ places. Within places (ways_seen ways.now)) }
 {
     let variables = width(ways)?;
-    Ok(variables)
+    let places = above(variables)?;
+    Ok(places)
 }
 
 /// A number above those of all variables.

@@ -1,6 +1,6 @@
 -- What a path carries along. At place 0 stands whether a path comes here at all, and behind it, at one more than its number,
 -- whether a variable is loose.
-use Rattle.std.specs.Prelude.{ℕ, ◌≡◌, ◌+◌, ◌||◌, Bool, true, false, [], ◌∷◌}
+use Rattle.std.specs.Prelude.{ℕ, ◌≡◌, ◌+◌, Bool, true, false, [], ◌∷◌}
 use Rattle.mpl_mean.specs.Pending.Looseness.{Event, Loosens, Settles, Copies, Forces, Path, where_one_is}
 
 abbrev pub Places : Type 0
@@ -8,10 +8,6 @@ Places = ℕ → Bool
 
 abbrev pub no_place : Places
 no_place place = false
-
--- those of both
-abbrev pub joint : Places → Places → Places
-joint one other place = one place || other place
 
 abbrev pub AreIn : Places → Places → Type 0
 AreIn few many = (place : ℕ) → few place ≡ true → many place ≡ true
