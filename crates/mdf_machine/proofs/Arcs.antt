@@ -26,9 +26,9 @@ others_at : (c k : ℕ) (arc : Arc) (arcs : List Arc) → (k ≡ c → ⊥) → 
 others_at c k arc arcs differ again true e = again ∙ sym (ap (λ b. map (λ (x : Arc). consumer_of x.to) (cond b (arc ∷ filter (leads_from k) arcs) (filter (leads_from k) arcs))) (nat_differ arc.from k (λ s. differ (sym s ∙ eqb-true arc.from c e))))
 others_at c k arc arcs differ again false e = by_bool (leads_from k arc)
     (λ t. ap (λ b. map (λ (x : Arc). consumer_of x.to) (cond b (arc ∷ filter (leads_from k) (filter (λ x. not (leads_from c x)) arcs)) (filter (leads_from k) (filter (λ x. not (leads_from c x)) arcs)))) t
-        ∙ ap (λ cs. consumer_of arc.to ∷ cs) again ∙ sym (ap (λ b. map (λ (x : Arc). consumer_of x.to) (cond b (arc ∷ filter (leads_from k) arcs) (filter (leads_from k) arcs))) t))
+    ∙ ap (λ cs. consumer_of arc.to ∷ cs) again ∙ sym (ap (λ b. map (λ (x : Arc). consumer_of x.to) (cond b (arc ∷ filter (leads_from k) arcs) (filter (leads_from k) arcs))) t))
     (λ t. ap (λ b. map (λ (x : Arc). consumer_of x.to) (cond b (arc ∷ filter (leads_from k) (filter (λ x. not (leads_from c x)) arcs)) (filter (leads_from k) (filter (λ x. not (leads_from c x)) arcs)))) t
-        ∙ again ∙ sym (ap (λ b. map (λ (x : Arc). consumer_of x.to) (cond b (arc ∷ filter (leads_from k) arcs) (filter (leads_from k) arcs))) t))
+    ∙ again ∙ sym (ap (λ b. map (λ (x : Arc). consumer_of x.to) (cond b (arc ∷ filter (leads_from k) arcs) (filter (leads_from k) arcs))) t))
 
 pub others_left : (c k : ℕ) (arcs : List Arc) → (k ≡ c → ⊥) → consumers_in (filter (λ arc. not (leads_from c arc)) arcs) k ≡ consumers_in arcs k
 others_left c k [] differ = refl
@@ -41,8 +41,8 @@ pub delivered : (c : ℕ) (arcs : List Arc) → deliveries c (consumers_in arcs 
 delivered c [] = refl
 delivered c (arc ∷ arcs) = by_bool (leads_from c arc)
     (λ t. ap (λ b. deliveries c (map (λ (x : Arc). consumer_of x.to) (cond b (arc ∷ filter (leads_from c) arcs) (filter (leads_from c) arcs)))) t
-        ∙ ap (λ b. cond b (record { consumer = consumer_of arc.to; from = c } ∷ deliveries c (consumers_in arcs c)) (deliveries c (consumers_in arcs c))) (served arc.to)
-        ∙ ap₂ (λ from ds. record { consumer = consumer_of arc.to; from = from } ∷ ds) (sym (eqb-true arc.from c t)) (delivered c arcs)
-        ∙ sym (ap (λ b. map due_of (cond b (arc ∷ filter (leads_from c) arcs) (filter (leads_from c) arcs))) t))
+    ∙ ap (λ b. cond b (record { consumer = consumer_of arc.to; from = c } ∷ deliveries c (consumers_in arcs c)) (deliveries c (consumers_in arcs c))) (served arc.to)
+    ∙ ap₂ (λ from ds. record { consumer = consumer_of arc.to; from = from } ∷ ds) (sym (eqb-true arc.from c t)) (delivered c arcs)
+    ∙ sym (ap (λ b. map due_of (cond b (arc ∷ filter (leads_from c) arcs) (filter (leads_from c) arcs))) t))
     (λ t. ap (λ b. deliveries c (map (λ (x : Arc). consumer_of x.to) (cond b (arc ∷ filter (leads_from c) arcs) (filter (leads_from c) arcs)))) t
-        ∙ delivered c arcs ∙ sym (ap (λ b. map due_of (cond b (arc ∷ filter (leads_from c) arcs) (filter (leads_from c) arcs))) t))
+    ∙ delivered c arcs ∙ sym (ap (λ b. map due_of (cond b (arc ∷ filter (leads_from c) arcs) (filter (leads_from c) arcs))) t))

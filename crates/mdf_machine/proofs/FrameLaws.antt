@@ -31,8 +31,7 @@ pub runs_there : (image : RawImage) (start : BodyStart) (told : List Told) (f g 
     → (stood : Stood) × StandsAt image start told stood g × Tells stop stood.halt × (g.turns ≡ f.turns + stood.turns)
 runs_there image start told f g stop on ran =
     let way = begins_the_way image start told f (record { steps = on.steps; behind_is = on.behind_is; answered = on.answered; object = on.object }) in
-    let come = comes_to_halt image start told 0 most_turns f g stop way (omega arith) ran in
-    (
+    let come = comes_to_halt image start told 0 most_turns f g stop way (omega arith) ran in (
       record { halt = ran.halt; turns = ran.spent + 0; frame = (alone_of g).frame },
       record { steps = come.steps; from = come.from; behind_is = come.behind_is; halts = come.halts; frame = come.frame; calls = come.calls; knows = come.knows; last = come.last; object = come.object },
       ran.stop_is,

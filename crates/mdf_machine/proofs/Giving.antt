@@ -94,6 +94,6 @@ module _ (job : Job) (log : Log) (p : Parts) (a t : ℕ) (words : List ℤ) (k :
   given_kept now turns is going turned = subst (λ l. Kept job l (with_known p a (Value words) turns)) (sym is)
       (kept_then job log (Reply a t (Words words)) p (with_known p a (Value words) turns) k going stops
       (settles_holds job (acts a t (tells Gave) (after job log)) (record p { turns = turns }) a (Value words)
-          (runs_on_holds job (after job log) p a t (tells Gave) k.holds stops.stops.running stops.stops.running (record { call = refl; ports = refl; child = λ n. refl; fate = refl }) turns turned)
-          stops.stops.there waiting (subst (λ (n : ℕ). n < (after job log).count) (ap (λ call. call.caller) (sym (same a).1)) (caller_there job log k.is_log a stops.stops.there)))
+      (runs_on_holds job (after job log) p a t (tells Gave) k.holds stops.stops.running stops.stops.running (record { call = refl; ports = refl; child = λ n. refl; fate = refl }) turns turned)
+      stops.stops.there waiting (subst (λ (n : ℕ). n < (after job log).count) (ap (λ call. call.caller) (sym (same a).1)) (caller_there job log k.is_log a stops.stops.there)))
       (omega arith))

@@ -69,14 +69,14 @@ module _ (job : Job) (w : World) (p : Parts) (a t : ℕ) (f : Actor → Actor) (
       (each_one (RowOf job) a y w v w.count w.count p.rows one h.rows refl (λ row e. row_kept job (w.actors a) y row (record { call = keeps.call; ports = keeps.ports; child = keeps.child; fate = keeps.fate }) e (subst (λ s. HasFrame job y s row.frame) (sym after_is) tt)))
       (marks_one a y w v w.count w.count p.going one (fates_one a y w v one keeps.fate) h.going refl (ap (goes_on w) after_is ∙ ap (goes_on w) (sym running)))
       is (main_kept job w v a y p.lines p.main_end one.others one.here (subst (λ s. MainIs job y s p.lines p.main_end) (sym after_is) tt) h.main) where
-    y : Actor
-    y = spends t (f (w.actors a))
+        y : Actor
+        y = spends t (f (w.actors a))
 
-    v : World
-    v = acts a t f w
+        v : World
+        v = acts a t f w
 
-    one : One a (spends t (f (w.actors a))) w (acts a t f w)
-    one = acts_one a t f w
+        one : One a (spends t (f (w.actors a))) w (acts a t f w)
+        one = acts_one a t f w
 
 -- ---- turns
 

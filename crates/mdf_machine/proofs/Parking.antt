@@ -43,17 +43,17 @@ module _ (job : Job) (w : World) (p : Parts) (a : ℕ) (h : Holds job w p) where
       acts_holds job w p (with_parked p a child frame turns) a t (λ x. parked x t child) h (record { ports = refl; fate = refl }) (record { ports = refl; results = refl; why = refl })
       (each_one_set (λ x s. s ≡ x.status) a y w v w.count w.count p.statuses (status.Parked child) one h.statuses refl refl)
       (each_one_changed (RowOf job) a y w v w.count w.count (with_frame frame) p.rows one h.rows refl
-          (λ row r. record { caller = r.caller; member = r.member; ports = r.ports; children = r.children; frame = record { frame = frame; is = refl; stood = at.stood; stands = at.stands } }))
+      (λ row r. record { caller = r.caller; member = r.member; ports = r.ports; children = r.children; frame = record { frame = frame; is = refl; stood = at.stood; stands = at.stands } }))
       (marks_one_set a y w v w.count w.count p.going false one (fates_one a y w v one refl) h.going refl (sym (ap is_some unknown)))
       turned (main_kept job w v a y p.lines p.main_end one.others one.here tt h.main) where
-    y : Actor
-    y = spends t (parked (w.actors a) t child)
+        y : Actor
+        y = spends t (parked (w.actors a) t child)
 
-    v : World
-    v = acts a t (λ x. parked x t child) w
+        v : World
+        v = acts a t (λ x. parked x t child) w
 
-    one : One a (spends t (parked (w.actors a) t child)) w (acts a t (λ x. parked x t child) w)
-    one = acts_one a t (λ x. parked x t child) w
+        one : One a (spends t (parked (w.actors a) t child)) w (acts a t (λ x. parked x t child) w)
+        one = acts_one a t (λ x. parked x t child) w
 
   pub resumes_holds : MayGoOn w a → Holds job (acts a 0 runs w) (with_resumed p a)
   resumes_holds may =
@@ -62,14 +62,14 @@ module _ (job : Job) (w : World) (p : Parts) (a : ℕ) (h : Holds job w p) where
       (each_one_changed (RowOf job) a y w v w.count w.count without_frame p.rows one h.rows refl (λ row r. record { caller = r.caller; member = r.member; ports = r.ports; children = r.children; frame = tt }))
       (marks_one a y w v w.count w.count p.going one (fates_one a y w v one refl) h.going refl (sym (ap (goes_on w) may.parked ∙ ap is_some may.is)))
       (omega arith) (main_kept job w v a y p.lines p.main_end one.others one.here tt h.main) where
-    y : Actor
-    y = spends 0 (runs (w.actors a))
+        y : Actor
+        y = spends 0 (runs (w.actors a))
 
-    v : World
-    v = acts a 0 runs w
+        v : World
+        v = acts a 0 runs w
 
-    one : One a (spends 0 (runs (w.actors a))) w (acts a 0 runs w)
-    one = acts_one a 0 runs w
+        one : One a (spends 0 (runs (w.actors a))) w (acts a 0 runs w)
+        one = acts_one a 0 runs w
 
   pub fires_holds : (w.actors a).status ≡ status.Ready → (turns fired : ℕ) → turns ≡ p.turns + 1 → Holds job (acts a 1 runs w) (with_begun p a turns fired)
   fires_holds ready turns fired turned =
@@ -78,14 +78,14 @@ module _ (job : Job) (w : World) (p : Parts) (a : ℕ) (h : Holds job w p) where
       (each_one (RowOf job) a y w v w.count w.count p.rows one h.rows refl (λ row r. record { caller = r.caller; member = r.member; ports = r.ports; children = r.children; frame = tt }))
       (marks_one a y w v w.count w.count p.going one (fates_one a y w v one refl) h.going refl (sym (ap (goes_on w) ready)))
       turned (main_kept job w v a y p.lines p.main_end one.others one.here tt h.main) where
-    y : Actor
-    y = spends 1 (runs (w.actors a))
+        y : Actor
+        y = spends 1 (runs (w.actors a))
 
-    v : World
-    v = acts a 1 runs w
+        v : World
+        v = acts a 1 runs w
 
-    one : One a (spends 1 (runs (w.actors a))) w (acts a 1 runs w)
-    one = acts_one a 1 runs w
+        one : One a (spends 1 (runs (w.actors a))) w (acts a 1 runs w)
+        one = acts_one a 1 runs w
 
 pub park_kept : (job : Job) (log now : Log) (p : Parts) (a t call child turns : ℕ) (frame : Frame) → Kept job log p → now ≡ Park a t call ∷ log → (after job log).why ≡ Going →
     IsFrameAt job (after job log) a t (Stands (Needs (Pending call))) frame → ((after job log).actors a).child call ≡ Some child → known_at (after job log) (Some child) ≡ None → turns ≡ p.turns + t →

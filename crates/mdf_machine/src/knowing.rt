@@ -11,7 +11,12 @@ use std::alloc::Global;
 
 impl Parts {
     /// A copy of the result of an actor's call, if it is known.
-    pub fn known_of_call(&self, alloc: Global, actor: u32, call: u32) -> Result<Option<Known>, NoMemory>
+    pub fn known_of_call(
+        &self,
+        alloc: Global,
+        actor: u32,
+        call: u32,
+    ) -> Result<Option<Known>, NoMemory>
         ensures { IfOk result (λ known. known ≡ option_and_then (known_at self.now.results) (child_at self.now.rows actor call)) }
     {
         match self.rows.child(actor, call) {

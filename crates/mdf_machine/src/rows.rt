@@ -54,7 +54,12 @@ impl Rows {
     }
 
     /// One more actor, without calls.
-    pub fn push(&mut self, caller: u32, member: Option<MemberId>, ports: u32) -> Result<(), NoMemory>
+    pub fn push(
+        &mut self,
+        caller: u32,
+        member: Option<MemberId>,
+        ports: u32,
+    ) -> Result<(), NoMemory>
         ensures ok { OnOk result (self.new ≡ self.old ++ record { caller = caller; member = member; ports = ports; children = []; frame = None } ∷ []) }
         ensures err { OnErr result (self.new ≡ self.old) }
     {

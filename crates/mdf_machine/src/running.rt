@@ -32,7 +32,12 @@ impl Machine {
     }
 
     /// The result of a call that the actor's frame needs, if it is known.
-    pub fn learn(&mut self, actor: u32, turns: u32, call: u32) -> Result<Result<Known, Open>, NoMemory>
+    pub fn learn(
+        &mut self,
+        actor: u32,
+        turns: u32,
+        call: u32,
+    ) -> Result<Result<Known, Open>, NoMemory>
         requires going { (world_of self.old).why ≡ Going }
         requires stops { Stops self.old.job (world_of self.old) actor turns (Stands (Needs (Pending call))) }
         ensures ok { IfOk result (Learns actor turns call self.old self.new) }
@@ -48,7 +53,13 @@ impl Machine {
     }
 
     /// Puts the actor's frame away until the result of a call is known, and hands it back where that is known by now.
-    pub fn park(&mut self, actor: u32, turns: u32, frame: Frame, call: u32) -> Result<Result<(), Frame>, NoMemory>
+    pub fn park(
+        &mut self,
+        actor: u32,
+        turns: u32,
+        frame: Frame,
+        call: u32,
+    ) -> Result<Result<(), Frame>, NoMemory>
         requires going { (world_of self.old).why ≡ Going }
         requires stops { IsFrameAt self.old.job (world_of self.old) actor turns (Stands (Needs (Pending call))) frame }
         ensures ok { IfOk result (Parks actor turns call frame self.old self.new) }

@@ -173,7 +173,6 @@ fn store_element<'o, 'a>(
 }
 
 /// The index is tested before the variable is needed.
-
 fn tested_store<'a>(
     codes: &mut Codes,
     marked: bool,

@@ -47,7 +47,8 @@ returns-clause-ok c =
       object = c.in_ok-frame.ensures.object ∙ ap (λ (s : BodyStart). s.object) start;
       turns = c.in_ok-frame.ensures.turns;
       last = c.in_ok-frame.ensures.last;
-    } in
-    (subst (λ (o : Course). ((world_of o).actors c.args.actor).status ≡ status.Ready) c.self.view_is ready,
-    subst (λ (o : Course). Begins o.job.image ((world_of o).actors c.args.actor).start c.in_ok-frame.frame) c.self.view_is begins,
-    ap (λ (log : Log). record { job = job; log = log }) c.in_ok-push.ensures.ok ∙ ap (then (Fire c.args.actor)) c.self.view_is)
+    } in (
+      subst (λ (o : Course). ((world_of o).actors c.args.actor).status ≡ status.Ready) c.self.view_is ready,
+      subst (λ (o : Course). Begins o.job.image ((world_of o).actors c.args.actor).start c.in_ok-frame.frame) c.self.view_is begins,
+      ap (λ (log : Log). record { job = job; log = log }) c.in_ok-push.ensures.ok ∙ ap (then (Fire c.args.actor)) c.self.view_is,
+    )

@@ -25,6 +25,7 @@ invariant_of-self-2 c =
 
 pub returns-clause-ok : goal.returns-clause-ok
 returns-clause-ok c =
-    let is = known_of_call_is _ c.self.inside.history c.self.inside.parts c.self.invariant c.args.actor c.args.call (subst (λ (o : Course). Stops o.job (world_of o) c.args.actor c.args.turns (Stands (Needs (Pending c.args.call)))) (sym c.self.view_is) c.requires.stops).stops.there in
-    (subst (λ (o : Course). known_at (world_of o) (((world_of o).actors c.args.actor).child c.args.call) ≡ Some c.in-Some.known) c.self.view_is (sym is ∙ sym c.in_ok-known.ensures ∙ c.in-Some.is),
-    ap (λ log. record { job = record { image = c.self.inside.image; input = c.self.inside.input; budget = c.self.inside.budget }; log = log }) c.in_ok-push.ensures.ok ∙ ap (then (Learn c.args.actor c.args.turns c.args.call)) c.self.view_is)
+    let is = known_of_call_is _ c.self.inside.history c.self.inside.parts c.self.invariant c.args.actor c.args.call (subst (λ (o : Course). Stops o.job (world_of o) c.args.actor c.args.turns (Stands (Needs (Pending c.args.call)))) (sym c.self.view_is) c.requires.stops).stops.there in (
+      subst (λ (o : Course). known_at (world_of o) (((world_of o).actors c.args.actor).child c.args.call) ≡ Some c.in-Some.known) c.self.view_is (sym is ∙ sym c.in_ok-known.ensures ∙ c.in-Some.is),
+      ap (λ log. record { job = record { image = c.self.inside.image; input = c.self.inside.input; budget = c.self.inside.budget }; log = log }) c.in_ok-push.ensures.ok ∙ ap (then (Learn c.args.actor c.args.turns c.args.call)) c.self.view_is,
+    )

@@ -43,9 +43,12 @@ returns-in-Known-clause-ok c =
     let at = subst (λ (o : Course). IsFrameAt o.job (world_of o) c.args.actor c.args.turns (Stands (Needs (Pending c.args.call))) c.args.frame) (sym c.self.view_is) c.requires.stops in
     let need = needs_call job c.self.inside.history p k c.args.actor c.args.turns c.args.call at.stood at.stops at.is in
     let found : ((after job c.self.inside.history).actors c.args.actor).child c.args.call ≡ Some c.in-Some.child = sym (child_is job (after job c.self.inside.history) p k.holds c.args.actor c.args.call at.stops.there) ∙ sym c.child.ensures ∙ c.in-Some.is in
-    let there : c.in-Some.child < (after job c.self.inside.history).count = (child_there job c.self.inside.history k.is_log c.args.actor c.args.call c.in-Some.child found).there in
-    (refl, (λ none. is_known_there job (after job c.self.inside.history) p k.holds c.in-Some.child c.state.result there c.state.ensures c.in-Known.is
-        (ap (known_at (after job c.self.inside.history)) (sym found) ∙ subst (λ (o : Course). known_at (world_of o) (((world_of o).actors c.args.actor).child c.args.call) ≡ None) (sym c.self.view_is) none)), refl)
+    let there : c.in-Some.child < (after job c.self.inside.history).count = (child_there job c.self.inside.history k.is_log c.args.actor c.args.call c.in-Some.child found).there in (
+      refl,
+      (λ none. is_known_there job (after job c.self.inside.history) p k.holds c.in-Some.child c.state.result there c.state.ensures c.in-Known.is
+          (ap (known_at (after job c.self.inside.history)) (sym found) ∙ subst (λ (o : Course). known_at (world_of o) (((world_of o).actors c.args.actor).child c.args.call) ≡ None) (sym c.self.view_is) none)),
+      refl,
+    )
 
 pub put_away-requires : goal.put_away-requires
 put_away-requires c =
@@ -85,7 +88,9 @@ returns c =
     let there : c.in-Some.child < (after job c.self.inside.history).count = (child_there job c.self.inside.history k.is_log c.args.actor c.args.call c.in-Some.child found).there in
     let unknown : known_at (after job c.self.inside.history) (Some c.in-Some.child) ≡ None = is_unknown_there job (after job c.self.inside.history) p k.holds c.in-Some.child c.state.result there c.state.ensures c.in_default-state.not-Known in
     record {
-      ok = (subst (λ (o : Course). known_at (world_of o) (((world_of o).actors c.args.actor).child c.args.call) ≡ None) c.self.view_is (ap (known_at (after job c.self.inside.history)) found ∙ unknown),
-          ap (λ (log : Log). record { job = job; log = log }) c.in_ok-push.ensures.ok ∙ ap (then (Park c.args.actor c.args.turns c.args.call)) c.self.view_is);
+      ok = (
+        subst (λ (o : Course). known_at (world_of o) (((world_of o).actors c.args.actor).child c.args.call) ≡ None) c.self.view_is (ap (known_at (after job c.self.inside.history)) found ∙ unknown),
+        ap (λ (log : Log). record { job = job; log = log }) c.in_ok-push.ensures.ok ∙ ap (then (Park c.args.actor c.args.turns c.args.call)) c.self.view_is,
+      );
       err = tt;
     }

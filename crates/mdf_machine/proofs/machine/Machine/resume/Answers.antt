@@ -32,8 +32,11 @@ returns-in_default-state c =
     let child : c.in-Parked.child < (after job c.self.inside.history).count = parked_child job c.self.inside.history k.is_log c.args.actor c.in-Parked.child parked in
     let none : known_at (after job c.self.inside.history) (Some c.in-Parked.child) ≡ None = is_unknown_there job (after job c.self.inside.history) p k.holds c.in-Parked.child c.state.result child c.state.ensures c.in_default-state.not-Known in
     record {
-      ok = (subst (λ (o : Course). ((world_of o).actors c.args.actor).status ≡ status.Parked c.in-Parked.child) c.self.view_is parked,
-          subst (λ (o : Course). MayGoOn (world_of o) c.args.actor → ⊥) c.self.view_is (stays_parked (after job c.self.inside.history) c.args.actor c.in-Parked.child parked none), refl);
+      ok = (
+        subst (λ (o : Course). ((world_of o).actors c.args.actor).status ≡ status.Parked c.in-Parked.child) c.self.view_is parked,
+        subst (λ (o : Course). MayGoOn (world_of o) c.args.actor → ⊥) c.self.view_is (stays_parked (after job c.self.inside.history) c.args.actor c.in-Parked.child parked none),
+        refl,
+      );
       err = tt;
     }
 
@@ -75,7 +78,8 @@ returns-clause-ok c =
     let value = value_there job (after job c.self.inside.history) p k.holds c.in-Parked.child c.state.result child c.state.ensures c.in-Known.is in
     let may : MayGoOn (after job c.self.inside.history) c.args.actor = record { child = c.in-Parked.child; parked = parked; known = value.0; is = value.1 } in
     let put = frame_there job (after job c.self.inside.history) p k.holds c.args.actor c.in-Parked.child there parked in
-    let same : put.frame ≡ c.in-Some.frame = cc (sym put.is ∙ sym c.take_out.ensures.frame ∙ c.in-Some.is) in
-    (subst (λ (o : Course). MayGoOn (world_of o) c.args.actor) c.self.view_is may,
-    subst (λ (o : Course). StandsThere o c.args.actor c.in-Some.frame) c.self.view_is (subst (λ (f : Frame). StandsThere (record { job = job; log = c.self.inside.history }) c.args.actor f) same (record { stood = put.stood; stands = put.stands })),
-    ap (λ (log : Log). record { job = job; log = log }) c.in_ok-push.ensures.ok ∙ ap (then (Resume c.args.actor)) c.self.view_is)
+    let same : put.frame ≡ c.in-Some.frame = cc (sym put.is ∙ sym c.take_out.ensures.frame ∙ c.in-Some.is) in (
+      subst (λ (o : Course). MayGoOn (world_of o) c.args.actor) c.self.view_is may,
+      subst (λ (o : Course). StandsThere o c.args.actor c.in-Some.frame) c.self.view_is (subst (λ (f : Frame). StandsThere (record { job = job; log = c.self.inside.history }) c.args.actor f) same (record { stood = put.stood; stands = put.stands })),
+      ap (λ (log : Log). record { job = job; log = log }) c.in_ok-push.ensures.ok ∙ ap (then (Resume c.args.actor)) c.self.view_is,
+    )
