@@ -1,0 +1,2 @@
+pub mod OutFrames
+pub mod Doing
