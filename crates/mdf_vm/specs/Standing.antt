@@ -1,5 +1,5 @@
 -- A frame alone, as it is between two calls of it.
-use Rattle.std.specs.Prelude.{ℕ, List, Option, Some, None, ◌≡◌, ◌⊎◌, ◌+◌, ◌<◌, ◌≤◌, ◌^◌, map, length}
+use Rattle.std.specs.Prelude.{ℕ, List, ◌≡◌, ◌⊎◌, ◌+◌, ◌<◌, ◌≤◌, ◌^◌, map, length}
 use Rattle.mdf_code.specs.declared.raw.RawImage.{RawImage}
 use Rattle.mdf_code.specs.Alone.{Held, Words, Pending}
 use Rattle.mdf_code.specs.Frames.{Around, Calls, Creates, Ends, Needs, Replies, Strays, Traps}
@@ -60,16 +60,6 @@ abbrev pub HasEnded : Last → Type 0
 HasEnded (last.Ended line) = Unit {0}
 HasEnded (last.Trapped trap) = Unit {0}
 HasEnded other = ⊥
-
--- the number of the call whose result is needed
-abbrev pub needed_at : Last → Option ℕ
-needed_at (last.Needs result) = Some result
-needed_at last.Going = None
-needed_at (last.Called member) = None
-needed_at last.Creates = None
-needed_at (last.Named object) = None
-needed_at (last.Ended line) = None
-needed_at (last.Trapped trap) = None
 
 -- a frame can run on
 abbrev pub IsReady : frames.Frame → Type 0

@@ -12,7 +12,7 @@ ghost use Rattle.mdf_vm.specs.Hollow.{IsHollow};
 ghost use Rattle.mdf_vm.specs.Internal.Answers.{IsAnswer};
 ghost use Rattle.mdf_vm.specs.Ends.{ended_of};
 ghost use Rattle.mdf_vm.specs.Internal.Turns.{halt_of};
-ghost use Rattle.mdf_vm.specs.Standing.{Awaits, HasEnded, IsAnswered, IsReady, Ran, RanOut, Tells, alone_of, goes_on, last_at, needed_at};
+ghost use Rattle.mdf_vm.specs.Standing.{Awaits, HasEnded, IsAnswered, IsReady, Ran, RanOut, Tells, alone_of, goes_on, last_at};
 
 use crate::code::{CodeKind, code_at};
 use crate::held::Held;
@@ -252,21 +252,6 @@ impl Frame {
             _ => false,
         };
         needed && 1 <= number && number as usize <= self.setting.results.len()
-    }
-
-    /// The number of the call whose result the frame needs, if it stopped so.
-    pub fn needs(&self) -> Option<u32>
-        ensures { result ≡ needed_at self.now.last }
-    {
-        match self.last {
-            Last::Needs(result) => Some(result),
-            Last::Going => None,
-            Last::Called(_) => None,
-            Last::Creates => None,
-            Last::Named(_) => None,
-            Last::Ended(_) => None,
-            Last::Trapped(_) => None,
-        }
     }
 
     /// Whether the frame waits for the word of an object.

@@ -1,2 +1,0 @@
-pub mod OutFrames
-pub mod Doing
