@@ -1,4 +1,4 @@
-use mpl_value::Bytes;
+use mpl_value::Spelling;
 
 /// Bytes of the source, from the first to the one behind the last, counted from 0.
 #[derive(Clone, Copy, Debug, PartialEq, Eq)]
@@ -22,7 +22,7 @@ pub struct At {
 pub struct Name {
     /// Where it begins.
     pub from: u32,
-    pub text: Bytes,
+    pub text: Spelling,
 }
 
 /// A number in a tree.

@@ -1,6 +1,7 @@
 pub mod Arithmetic
-pub mod Words
-pub mod Spares
 pub mod CallAnswers
-pub mod Results
 pub mod Growing
+pub mod Results
+pub mod Spares
+pub mod Spellings
+pub mod Words

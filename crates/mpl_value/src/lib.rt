@@ -9,6 +9,7 @@ mod memory;
 mod numbers;
 mod replies;
 mod roomy;
+mod spelling;
 
 pub use arithmetic::{add, div, mul, neg, rem, sub};
 pub use body::{Arg, Args, BodyEnd, BodyResult, BodyStart, CallMade, Calls, MemberId, Yield};
@@ -18,3 +19,4 @@ pub use memory::NoMemory;
 pub use numbers::{Bytes, Numbers, Words};
 pub use replies::Replies;
 pub use roomy::RoomyWords;
+pub use spelling::Spelling;
