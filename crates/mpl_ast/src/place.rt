@@ -1,4 +1,4 @@
-use mpl_value::Spelling;
+use mpl_value::Bytes;
 
 /// Bytes of the source, from the first to the one behind the last, counted from 0.
 #[derive(Clone, Copy, Debug, PartialEq, Eq)]
@@ -22,7 +22,7 @@ pub struct At {
 pub struct Name {
     /// Where it begins.
     pub from: u32,
-    pub text: Spelling,
+    pub text: Bytes,
 }
 
 /// A number in a tree.

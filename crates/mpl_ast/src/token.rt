@@ -1,5 +1,5 @@
 use crate::place::Span;
-use mpl_value::{Listed, Spelling};
+use mpl_value::{Bytes, Listed};
 
 /// The words that are no names.
 #[derive(Clone, Copy, Debug, PartialEq, Eq)]
@@ -67,7 +67,7 @@ pub enum Mark {
 
 #[derive(Debug, Drop)]
 pub enum TokenKind {
-    Name(Spelling),
+    Name(Bytes),
     Number(i64),
     Keyword(Keyword),
     Mark(Mark),

@@ -8,7 +8,7 @@ ghost use Rattle.mpl_mean.specs.Limits.{most_source_bytes};
 use crate::lexer::LexFault;
 use crate::{classes, scan, spelling};
 use mpl_ast::token::TokenKind;
-use mpl_value::{NoMemory, Spelling};
+use mpl_value::{Bytes, NoMemory};
 use std::alloc::Global;
 
 /// What stands at the front of some bytes.
@@ -93,7 +93,7 @@ fn word_kind(alloc: Global, text: &[u8]) -> Result<TokenKind, NoMemory>
 {
     match spelling::keyword(text) {
         Some(keyword) => Ok(TokenKind::Keyword(keyword)),
-        None => Ok(TokenKind::Name(Spelling::from_slice(alloc, text)?)),
+        None => Ok(TokenKind::Name(Bytes::from_slice(alloc, text)?)),
     }
 }
 

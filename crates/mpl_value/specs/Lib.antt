@@ -1,7 +1,6 @@
 pub mod Arithmetic
-pub mod CallAnswers
-pub mod Growing
-pub mod Results
-pub mod Spares
-pub mod Spellings
 pub mod Words
+pub mod Spares
+pub mod CallAnswers
+pub mod Results
+pub mod Growing

@@ -9,7 +9,6 @@ mod memory;
 mod numbers;
 mod replies;
 mod roomy;
-mod spelling;
 
 pub use arithmetic::{add, div, mul, neg, rem, sub};
 pub use body::{Arg, Args, BodyEnd, BodyResult, BodyStart, CallMade, Calls, MemberId, Yield};
@@ -19,4 +18,3 @@ pub use memory::NoMemory;
 pub use numbers::{Bytes, Numbers, Words};
 pub use replies::Replies;
 pub use roomy::RoomyWords;
-pub use spelling::Spelling;
